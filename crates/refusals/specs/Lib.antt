@@ -1,0 +1,3 @@
+pub mod Numbering
+pub mod Reasons
+pub mod Faults
