@@ -1,0 +1,3 @@
+pub mod Survey
+pub mod Listing
+pub mod Laws
