@@ -6,7 +6,9 @@ use std::io::Read;
 // Reads standard input to its end and prints the numbers in it. A refusal is printed too, and ends with status 1.
 fn main(rt: LibcRuntime) -> Result<(), AnyError> {
     let mut bytes = Vec::new(rt.alloc());
-    rt.stdin().take(MOST_BYTES as u64 + 1).read_to_end(&mut bytes)?;
+    rt.stdin()
+        .take(MOST_BYTES as u64 + 1)
+        .read_to_end(&mut bytes)?;
     let report = inspect_numbers(rt.alloc(), &bytes)?;
     rt.print(report.text.as_str())?;
     match report.fault {

@@ -80,3 +80,44 @@ fn append<D: Display + Drop>(text: &mut String, value: D) -> Result<(), AllocErr
         Err(_) => Err(AllocError),
     }
 }
+
+#[cfg(test)]
+mod tests {
+    use super::*;
+    use refusals::FaultDebug;
+    use refusals::FaultPartialEq;
+    use std::test::*;
+
+    #[test]
+    fn lists_numbers_with_their_places(rt: LibcRuntime) -> Result<(), Fail> {
+        let report = inspect_numbers(rt.alloc(), &[3, 0x80, 0x01, 0xff, 0x7f])?;
+        check_eq(
+            report.text.as_str(),
+            "0 3\n1 128\n3 16383\n3 numbers in 5 bytes\n",
+        )?;
+        check_eq(report.fault, None)
+    }
+
+    #[test]
+    fn stops_at_the_first_fault(rt: LibcRuntime) -> Result<(), Fail> {
+        let report = inspect_numbers(rt.alloc(), &[3, 0x80, 0x00, 0x80])?;
+        let told =
+            "0 3\nrefused 3 at 1: a number is not in its shortest form: its last byte is zero\n";
+        check_eq(report.text.as_str(), told)?;
+        check_eq(report.fault, Some(Fault::at(Refusal::NumberPadded, 1)))
+    }
+
+    #[test]
+    fn too_many_bytes_are_refused_unread(rt: LibcRuntime) -> Result<(), Fail> {
+        let heap = rt.alloc();
+        let most = vec![in heap; 0x80u8; MOST_BYTES]?;
+        let report = inspect_numbers(heap, &most)?;
+        check_eq(report.fault, Some(Fault::at(Refusal::NumberTooLong, 0)))?;
+        let more = vec![in heap; 0x80u8; MOST_BYTES + 1]?;
+        let report = inspect_numbers(heap, &more)?;
+        let told =
+            "refused 12: a table, ring, limit or buffer is too short for what has to be written\n";
+        check_eq(report.text.as_str(), told)?;
+        check_eq(report.fault, Some(Fault::bare(Refusal::TooShort)))
+    }
+}

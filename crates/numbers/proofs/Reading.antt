@@ -10,7 +10,7 @@ use native.Mathlib.Numerals.{add-one}
 use lib.Dec.{ltb, eqb}
 use lib.ListN.{length, drop, getD}
 use Rattle.std.proofs.shelf.Lists.{drop-all, drop-more}
-use Rattle.std.proofs.shelf.Tests.{cases-lt, cases-eq, lt-ltb, le-ltb, eq-eqb, ne-eqb, and-right}
+use Rattle.std.proofs.shelf.Tests.{cases-lt, cases-eq, lt-ltb, le-ltb, eq-eqb, ne-eqb, and-from, and-right}
 use Rattle.std.specs.shelf.Lists.{All}
 use Rattle.std.specs.declared.result.Result.{Result}
 use Rattle.std.specs.declared.result.Result.the-variants.{Ok, Err}
@@ -99,13 +99,17 @@ unfoldable pub after : ℕ → ℕ → Result (ℕ × List ℕ) Refusal → Resu
 after k v (Err e) = Err e
 after k v (Ok (n, left)) = cond (ltb 0 k && eqb n 0) (Err NumberPadded) (Ok (v + n * 128 ^ k, left))
 
-pub after-padded : (k v : ℕ) (left : List ℕ) → 0 < k → after k v (Ok (0, left)) ≡ Err NumberPadded
+-- a last group behind k others: padding, or part of the number
+pub after-padded : (k v b : ℕ) (left : List ℕ) → (ltb 0 k && eqb b 0) ≡ true → after k v (Ok (b, left)) ≡ Err NumberPadded
 unfolding after
-after-padded k v left some = rw (lt-ltb 0 k some)
+after-padded k v b left padded = rw padded
+
+pub after-last : (k v b : ℕ) (left : List ℕ) → (ltb 0 k && eqb b 0) ≡ false → after k v (Ok (b, left)) ≡ Ok (v + b * 128 ^ k, left)
+unfolding after
+after-last k v b left last = rw last
 
 after-some : (k v n : ℕ) (left : List ℕ) → (n ≡ 0 → ⊥) → after k v (Ok (n, left)) ≡ Ok (v + n * 128 ^ k, left)
-unfolding after
-after-some k v n left some = rw (ne-eqb n 0 some, and-right (ltb 0 k) false refl)
+after-some k v n left some = after-last k v n left (and-right (ltb 0 k) (eqb n 0) (ne-eqb n 0 some))
 
 pub after-none : (r : Result (ℕ × List ℕ) Refusal) → after 0 0 r ≡ r
 unfolding after
@@ -120,17 +124,11 @@ unfolding after before
 after-more k v b (Err e) large = refl
 after-more k v b (Ok (m, left)) large =
     ⊎-elim
-    (λ none. ap (after k v) (before-none b m left none) ∙ sym (ap (λ n. after (k + 1) (v + (b - 128) * 128 ^ k) (Ok (n, left))) none ∙ after-padded (k + 1) (v + (b - 128) * 128 ^ k) left (omega arith)))
+    (λ none. ap (after k v) (before-none b m left none) ∙ sym (after-padded (k + 1) (v + (b - 128) * 128 ^ k) m left (and-from (ltb 0 (k + 1)) (eqb m 0) (lt-ltb 0 (k + 1) (omega arith)) (eq-eqb m 0 none))))
     (λ some.
     let e : v + (b - 128 + 128 * m) * 128 ^ k ≡ v + (b - 128) * 128 ^ k + m * 128 ^ (k + 1) = rw (add-one, pow-suc 128 k) (spread v (b - 128) m (128 ^ k)) in
     ap (after k v) (before-some b m left some) ∙ after-some k v (b - 128 + 128 * m) left (omega arith) ∙ rw e (sym (after-some (k + 1) (v + (b - 128) * 128 ^ k) m left some)))
     (cases-eq m 0)
-
--- a last group behind k others: it is no zero, or it is the first
-pub after-last : (k v b : ℕ) (left : List ℕ) → ((b ≡ 0) × (k ≤ 0)) ⊎ (b ≡ 0 → ⊥) → after k v (Ok (b, left)) ≡ Ok (v + b * 128 ^ k, left)
-unfolding after
-after-last k v b left (inl (none, first)) = rw (le-ltb 0 k first)
-after-last k v b left (inr some) = after-some k v b left some
 
 -- the powers that are met
 pub pow-le : (k : ℕ) → k ≤ 6 → 128 ^ k ≤ 2 ^ 42

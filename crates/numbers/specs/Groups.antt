@@ -11,7 +11,7 @@ use Rattle.refusals.specs.declared.Refusal.the-variants.{NumberCut, NumberTooLo
 -- 128 is added to a group that another follows.
 unfoldable pub groups : ℕ → ℕ → List ℕ
 groups zero n = []
-groups (suc k) n = cond (ltb n 128) (n ∷ []) ((128 + n % 128) ∷ groups k (n / 128))
+groups (suc k) n = cond (ltb n 128) (n ∷ []) (let more = groups k (n / 128) in (128 + n % 128) ∷ more)
 
 -- The bytes of a number: all its groups. A number n never has more than n + 1.
 unfoldable pub encoded : ℕ → List ℕ

@@ -6,8 +6,9 @@ ghost use Rattle.numbers.specs.Writing.{over, writeAt};
 ghost use Rattle.std.specs.Results.{isOk};
 ghost use Rattle.std.specs.Vec.{made};
 ghost use Rattle.std.specs.declared.result.Result.the-variants.{Ok};
+ghost use lib.Dec.{eqb, ltb};
 ghost use lib.ListN.{length};
-ghost use mathlib.Core.Bool.{cond};
+ghost use mathlib.Core.Bool.{cond, _&&_};
 ghost use mathlib.Core.List.{List};
 ghost use mathlib.Core.Path.{_≡_};
 use refusals::Fault;
@@ -31,7 +32,7 @@ pub fn read_number(bytes: &[u8], at: usize) -> Result<(u64, usize), Fault>
         let group = bytes[i] as u64;
         i += 1;
         if group < 128 {
-            if group == 0 && k > 0 {
+            if is_padded(k, group) {
                 return Err(Fault::at(Refusal::NumberPadded, at));
             }
             return Ok((value + group * scale, i));
@@ -40,6 +41,13 @@ pub fn read_number(bytes: &[u8], at: usize) -> Result<(u64, usize), Fault>
         scale *= 128;
     }
     Err(Fault::at(Refusal::NumberTooLong, at))
+}
+
+// A number of several groups is not in its shortest form where its last group is zero.
+fn is_padded(groups_before: u8, last: u64) -> bool
+    ensures { λ r. ⌜ r ≡ (ltb 0 «groups_before» && eqb last 0) ⌝ }
+{
+    groups_before > 0 && last == 0
 }
 
 // How many bytes a number has when it is written; more than six cannot be written.
@@ -85,4 +93,86 @@ fn put_groups(out: &mut [u8], at: usize, n: u64) -> usize
     }
     out[i] = rest as u8;
     i + 1
+}
+
+#[cfg(test)]
+mod tests {
+    use super::*;
+    use refusals::FaultDebug;
+    use refusals::FaultPartialEq;
+    use refusals::RefusalDebug;
+    use refusals::RefusalPartialEq;
+    use std::test::*;
+
+    // Writes a number behind a byte, reads it again, and looks at the bytes around it.
+    fn goes_round(n: u64, len: usize) -> Result<(), Fail> {
+        let mut out = [7u8; 9];
+        check(len < 8)?;
+        check_eq(number_len(n), len)?;
+        check_eq(write_number(&mut out, 1, n), Ok(1 + len))?;
+        check_eq(read_number(&out, 1), Ok((n, 1 + len)))?;
+        check_eq(out[0], 7)?;
+        check_eq(out[1 + len..].iter().copied().min(), Some(7))?;
+        check_eq(out[1 + len..].iter().copied().max(), Some(7))
+    }
+
+    #[test]
+    fn boundaries_go_round() -> Result<(), Fail> {
+        let bounds = [
+            (0, 1),
+            (127, 1),
+            (128, 2),
+            ((1 << 35) - 1, 5),
+            (1 << 35, 6),
+            (1 << 36, 6),
+            ((1 << 42) - 1, 6),
+        ];
+        for (n, len) in bounds {
+            goes_round(n, len)?;
+        }
+        Ok(())
+    }
+
+    // What is read of some bytes from the place 0 on.
+    fn refuses(bytes: &[u8], refusal: Refusal) -> Result<(), Fail> {
+        check_eq(read_number(bytes, 0), Err(Fault::at(refusal, 0)))
+    }
+
+    #[test]
+    fn faulty_bytes_are_refused() -> Result<(), Fail> {
+        let more = [0x80u8; 6];
+        for groups in 0..6 {
+            refuses(&more[0..groups], Refusal::NumberCut)?;
+        }
+        refuses(&more, Refusal::NumberTooLong)?;
+        refuses(
+            &[0x80, 0x80, 0x80, 0x80, 0x80, 0x80, 0x01],
+            Refusal::NumberTooLong,
+        )?;
+        refuses(&[0x80, 0x00], Refusal::NumberPadded)?;
+        refuses(&[0xff, 0xff, 0xff, 0xff, 0xff, 0x00], Refusal::NumberPadded)?;
+        check_eq(read_number(&[5], 2), Err(Fault::at(Refusal::NumberCut, 2)))?;
+        check_eq(
+            read_number(&[5, 0x80, 0x00], 1),
+            Err(Fault::at(Refusal::NumberPadded, 1)),
+        )
+    }
+
+    // Such a write is refused, and the bytes are as they were.
+    fn does_not_fit(at: usize, n: u64) -> Result<(), Fail> {
+        let mut out = [7u8; 6];
+        check_eq(write_number(&mut out, at, n), Err(Refusal::TooShort))?;
+        check_eq(out, [7u8; 6])
+    }
+
+    #[test]
+    fn what_does_not_fit_is_refused() -> Result<(), Fail> {
+        does_not_fit(0, 1 << 42)?;
+        does_not_fit(0, u64::MAX)?;
+        does_not_fit(1, 1 << 36)?;
+        does_not_fit(6, 0)?;
+        does_not_fit(usize::MAX, 0)?;
+        check_eq(number_len(1 << 42), 7)?;
+        check_eq(number_len(u64::MAX), 10)
+    }
 }

@@ -194,3 +194,36 @@ pub impl fmt::Display for Fault as FaultDisplay {
         }
     }
 }
+
+#[cfg(test)]
+mod tests {
+    use super::*;
+    use std::test::*;
+
+    #[test]
+    fn prints_number_place_and_reason(rt: LibcRuntime) -> Result<(), Fail> {
+        let heap = rt.alloc();
+        let padded = Fault::at(Refusal::NumberPadded, 7);
+        check_eq(
+            format!(heap, "{padded}")?.as_str(),
+            "3 at 7: a number is not in its shortest form: its last byte is zero",
+        )?;
+        let short = Fault::bare(Refusal::TooShort);
+        check_eq(
+            format!(heap, "{short}")?.as_str(),
+            "12: a table, ring, limit or buffer is too short for what has to be written",
+        )
+    }
+
+    #[test]
+    fn numbers_lead_back() -> Result<(), Fail> {
+        let mut found = 0u8;
+        for n in 0..=255u8 {
+            if let Some(refusal) = Refusal::from_number(n) {
+                check_eq(refusal.number(), n)?;
+                found = found.saturating_add(1);
+            }
+        }
+        check_eq(found, 22)
+    }
+}

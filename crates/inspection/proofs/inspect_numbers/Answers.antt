@@ -17,11 +17,11 @@ returns-then-bytes-gt-MOST-BYTES c =
     let fault = faultOf TooShort in
     record {
       told =
-        rw (lt-ltb 32768 (length bytes) (c .if-bytes-gt-MOST-BYTES .taken))
-        (made-weaker (c .refused .result) _ (λ p. Tells p (length bytes) (ended (Some fault)))
-        (λ p told.
-        (told .0 ∙ ap (λ bs. bs ++ refusedLine (c .bare .result)) (c .new .ensures .bytes) ∙ ap refusedLine (c .bare .ensures), told .1 ∙ ap Some (c .bare .ensures)))
-        (c .refused .ensures));
+          rw (lt-ltb 32768 (length bytes) (c .if-bytes-gt-MOST-BYTES .taken))
+          (made-weaker (c .refused .result) _ (λ p. Tells p (length bytes) (ended (Some fault)))
+          (λ p told.
+          (told .0 ∙ ap (λ bs. bs ++ refusedLine (c .bare .result)) (c .new .ensures .bytes) ∙ ap refusedLine (c .bare .ensures), told .1 ∙ ap Some (c .bare .ensures)))
+          (c .refused .ensures));
       exact = surveys-exactly bytes (c .typed .bytes);
     }
 

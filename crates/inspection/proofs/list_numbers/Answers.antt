@@ -35,7 +35,7 @@ loop-at-again c =
         c .in-Continue-append .ensures tt ∙ ap (λ bs. bs ++ line p) (i .1) ∙ sym (lines-push (i .0) p),
         omega (arith, i .2, length-append (i .0) (p ∷ [])),
         at-number (surveyOf (c .args .bytes .now)) (i .0) (c .args .bytes .now) (c .loop-at .at) (c .in-Ok .n) (c .in-Ok .next) (i .3) (c .loop-at-test .taken) (w .0)
-        (sym (c .in-Ok .ensures tt .value)),
+            (sym (c .in-Ok .ensures tt .value)),
       ),
     )
 
@@ -56,5 +56,8 @@ returns c =
     let i = c .loop-at .inv .2 in
     let bytes = c .args .bytes .now in
     let s = at-end (surveyOf bytes) (i .0) bytes (c .loop-at .at) (i .3) (c .loop-at-test .left) in
-    rw s (c .in-Continue-append-2 .ensures tt ∙ ap (λ bs. bs ++ lastLine (c .loop-at .count) (length bytes) None) (i .1)
-    ∙ ap (λ m. linesOf (i .0) ++ lastLine m (length bytes) None) (i .2), refl)
+    rw s (
+      c .in-Continue-append-2 .ensures tt ∙ ap (λ bs. bs ++ lastLine (c .loop-at .count) (length bytes) None) (i .1)
+          ∙ ap (λ m. linesOf (i .0) ++ lastLine m (length bytes) None) (i .2),
+      refl,
+    )

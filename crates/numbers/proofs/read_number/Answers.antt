@@ -34,16 +34,15 @@ returns-then-i-bytes c =
     let v = refused bytes (c .args .at) NumberCut (c .at .result) (c .at .ensures) (c .loop-k .inv .3 ∙ ap (after (c .loop-k .k) (c .loop-k .value)) e) in
     record { value = v; exact = exactly bytes (c .args .at) (Err (c .at .result)) (c .typed .bytes) v }
 
-pub returns-then-k-gt0 : need.returns-then-k-gt0
-returns-then-k-gt0 c =
+pub returns-then-is-padded : need.returns-then-is-padded
+returns-then-is-padded c =
     let bytes = c .args .bytes .now in
     let left = drop (c .loop-k .i + 1) bytes in
     let e = at-last bytes (c .loop-k .i) (c .loop-k .k) (omega arith) (c .if-i-bytes .left) (c .if-group-lt128 .taken) in
-    let v = refused bytes (c .args .at) NumberPadded (c .at-then-k-gt0 .result) (c .at-then-k-gt0 .ensures)
+    let v = refused bytes (c .args .at) NumberPadded (c .at-then-is-padded .result) (c .at-then-is-padded .ensures)
     (c .loop-k .inv .3 ∙ ap (after (c .loop-k .k) (c .loop-k .value)) e
-    ∙ ap (λ b. after (c .loop-k .k) (c .loop-k .value) (Ok (b, left))) (c .if-group-eq0 .taken)
-    ∙ after-padded (c .loop-k .k) (c .loop-k .value) left (c .if-k-gt0 .taken)) in
-    record { value = v; exact = exactly bytes (c .args .at) (Err (c .at-then-k-gt0 .result)) (c .typed .bytes) v }
+    ∙ after-padded (c .loop-k .k) (c .loop-k .value) (getD bytes (c .loop-k .i) 0) left (sym (c .is-padded .ensures) ∙ c .if-is-padded .taken)) in
+    record { value = v; exact = exactly bytes (c .args .at) (Err (c .at-then-is-padded .result)) (c .typed .bytes) v }
 
 -- a group times what it counts for
 room : (b s k : ℕ) → b < 128 → s ≡ 128 ^ k → k ≤ 6 → b * s ≤ 127 * 2 ^ 42
@@ -63,7 +62,7 @@ returns-then-group-lt128 c =
     let left = drop (c .loop-k .i + 1) bytes in
     let next : length bytes - length left ≡ c .loop-k .i + 1 = omega (arith, length-drop (c .loop-k .i + 1) bytes, c .if-i-bytes .left) in
     let whole : decodedIn 6 (drop (c .args .at) bytes) ≡ Ok (c .loop-k .value + b * 128 ^ c .loop-k .k, left) =
-    c .loop-k .inv .3 ∙ ap (after (c .loop-k .k) (c .loop-k .value)) e ∙ after-last (c .loop-k .k) (c .loop-k .value) b left (c .else-group-eq0 .either) in
+    c .loop-k .inv .3 ∙ ap (after (c .loop-k .k) (c .loop-k .value)) e ∙ after-last (c .loop-k .k) (c .loop-k .value) b left (sym (c .is-padded .ensures) ∙ c .if-is-padded .left) in
     let v : Ok (c .loop-k .value + b * c .loop-k .scale, c .loop-k .i + 1) ≡ readAt bytes (c .args .at) =
     ap (λ s. Ok (c .loop-k .value + b * s, c .loop-k .i + 1)) (c .loop-k .inv .1)
     ∙ ap (λ m. Ok (c .loop-k .value + b * 128 ^ c .loop-k .k, m)) (sym next) ∙ sym (ap (placed bytes (c .args .at)) whole) in
