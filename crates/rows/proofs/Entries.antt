@@ -12,12 +12,12 @@ use Rattle.std.proofs.shelf.Lists.{drop-more, at-drop-all}
 use Rattle.std.proofs.shelf.Sums.{sumBy-more}
 use Rattle.std.proofs.shelf.Tests.{cond-true, cond-false, eq-eqb, ne-eqb}
 use Rattle.sources.specs.Meaning.{Meaning, Rising, rowLen, entryAt, worthIn}
-use Rattle.sources.proofs.Reading.{row-len-some, entry-none, rising-apart}
+use Rattle.sources.proofs.Reading.{row-len-some, entry-past, rising-apart}
 use Rattle.rows.specs.Totals.{jobIn, worthAt, worths, Best, BestIn}
 
 -- each place below a row's length has an entry
 pub never-none : (m : Meaning) (i len k : ℕ) → Some len ≡ rowLen m i → k < len → None ≡ entryAt m i k → ⊥
-never-none m i len k has l e = omega (arith, row-len-some m i len has, entry-none m i k e)
+never-none m i len k has l e = omega (arith, row-len-some m i len has, entry-past m i k e)
 
 module _ (row : List (ℕ × ℕ)) (k job worth : ℕ) (l : k < length row) (is : getD row k (0, 0) ≡ (job, worth)) where
   job-is : jobIn row k ≡ job

@@ -56,12 +56,12 @@ nth-none (x ∷ xs) zero e = let z : _≡_ {A = ℕ} 0 1 = cc in absurd (omega a
 nth-none (x ∷ xs) (suc k) e = omega (arith, nth-none xs k e)
 
 -- the entry that was read at a place is the one that stands there in the row
-pub entry-some : (m : Meaning) (i k : ℕ) (e : ℕ × ℕ) → Some e ≡ entryAt m i k → getD (rowOf m i) k (0, 0) ≡ e
-entry-some m i k e h = nth-some (rowOf m i) k e (0, 0) (sym (entry-is m i k) ∙ sym h)
+pub entry-read : (m : Meaning) (i k : ℕ) (e : ℕ × ℕ) → Some e ≡ entryAt m i k → getD (rowOf m i) k (0, 0) ≡ e
+entry-read m i k e h = nth-some (rowOf m i) k e (0, 0) (sym (entry-is m i k) ∙ sym h)
 
 -- where none was read, the row ends
-pub entry-none : (m : Meaning) (i k : ℕ) → None ≡ entryAt m i k → length (rowOf m i) ≤ k
-entry-none m i k h = nth-none (rowOf m i) k (sym (entry-is m i k) ∙ sym h)
+pub entry-past : (m : Meaning) (i k : ℕ) → None ≡ entryAt m i k → length (rowOf m i) ≤ k
+entry-past m i k h = nth-none (rowOf m i) k (sym (entry-is m i k) ∙ sym h)
 
 -- ---- what soundness says of a row
 

@@ -13,8 +13,8 @@ use Rattle.std.specs.declared.option.Option.the-variants.{Some, None}
 use Rattle.std.specs.Orderings.{Decides}
 use Rattle.std.specs.Places.{Some-of}
 use Rattle.std.proofs.shelf.Elements.{has-from-contains}
-use Rattle.std.proofs.shelf.Tests.{leb-true, le-leb, eq-eqb, le-ltb, cases-bool}
-use Rattle.std.proofs.shelf.Ways.{same-from-decides, decides-below-and}
+use Rattle.std.proofs.shelf.Tests.{both-ways, eq-eqb, le-ltb, cases-bool}
+use Rattle.std.proofs.shelf.Ways.{same-from-decides}
 use Rattle.sources.specs.declared.form.Entry.{Entry}
 use Rattle.sources.specs.declared.form.Heading.{Heading}
 use Rattle.refusals.specs.declared.Refusal.{Refusal}
@@ -27,10 +27,10 @@ contains-is starts k r h = same-from-decides r (hasStart starts k) (has-from-con
 
 pub or-taken : (r h b : Bool) → r ≡ h → r ≡ true → r ≡ (h || b)
 or-taken r true b e t = e
-or-taken r false b e t = absurd (Rattle.std.proofs.shelf.Tests.both-ways r e t)
+or-taken r false b e t = absurd (both-ways r e t)
 
 pub or-left-out : (r h b : Bool) → r ≡ h → r ≡ false → b ≡ (h || b)
-or-left-out r true b e t = absurd (Rattle.std.proofs.shelf.Tests.both-ways r t e)
+or-left-out r true b e t = absurd (both-ways r t e)
 or-left-out r false b e t = refl
 
 -- nothing stands before the first entry
@@ -40,7 +40,7 @@ at-first es (suc k) l = absurd (omega arith)
 
 falls : (starts : List ℕ) (n i : ℕ) → i < n → getD starts (i + 1) 0 < getD starts i 0 → neverFalls starts n ≡ false
 falls starts n i l below =
-    ⊎-elim (λ e. absurd (omega (arith, never-falls starts n e i l))) (λ e. e) (cases-bool (neverFalls starts n))
+    ⊎-elim (λ e. absurd (omega (arith, never-falls starts n .0 e i l))) (λ e. e) (cases-bool (neverFalls starts n))
 
 bad-starts : (a b c : Bool) → b ≡ false → false ≡ (a && (b && c))
 bad-starts true b c e = sym (ap (λ x. x && c) e)
@@ -50,18 +50,13 @@ pub starts-fall : (h : Heading) (starts : List ℕ) (count i : ℕ) → i < h .c
 starts-fall h starts count i l below =
     bad-starts (eqb (length starts) (h .carriers + 1) && eqb (getD starts 0 0) 0) (neverFalls starts (h .carriers)) (leb (lastOf h starts) count) (falls starts (h .carriers) i l below)
 
-never-falls-from : (starts : List ℕ) (n : ℕ) → ((k : ℕ) → k < n → getD starts k 0 ≤ getD starts (k + 1) 0) → neverFalls starts n ≡ true
-never-falls-from starts n =
-    decides-below-and (λ k. leb (getD starts k 0) (getD starts (k + 1) 0)) (λ k. getD starts k 0 ≤ getD starts (k + 1) 0) (neverFalls starts)
-    (λ k. (leb-true (getD starts k 0) (getD starts (k + 1) 0), le-leb (getD starts k 0) (getD starts (k + 1) 0))) refl (λ _. refl) n .1
-
 all-but : (a b c d : Bool) → a ≡ true → b ≡ true → c ≡ true → d ≡ ((a && b) && (c && d))
 all-but a b c d p q r = simp (p, q, r)
 
 pub starts-rise : (h : Heading) (starts : List ℕ) (count : ℕ) → length starts ≡ h .carriers + 1 → getD starts 0 0 ≡ 0 → ((k : ℕ) → k < h .carriers → getD starts k 0 ≤ getD starts (k + 1) 0) → leb (lastOf h starts) count ≡ startsGood h starts count
 starts-rise h starts count long first rises =
     all-but (eqb (length starts) (h .carriers + 1)) (eqb (getD starts 0 0) 0) (neverFalls starts (h .carriers)) (leb (lastOf h starts) count)
-    (eq-eqb _ _ long) (eq-eqb _ _ first) (never-falls-from starts (h .carriers) rises)
+    (eq-eqb _ _ long) (eq-eqb _ _ first) (never-falls starts (h .carriers) .1 rises)
 
 first-from : (f : ℕ → Option Refusal) (a n d : ℕ) (r : Refusal) → ((j : ℕ) → j < d → f (a + j) ≡ None) → d < n → f (a + d) ≡ Some r → firstRefusal f a n ≡ Some r
 first-from f a zero d r before l e = absurd (omega arith)

@@ -2,7 +2,7 @@
 use mathlib.Core.Path.{_≡_, refl, sym, ap, subst, _∙_}
 use mathlib.Core.Bool.{Bool, true, false, cond, _&&_}
 use mathlib.Core.Logic.{_⊎_, inl, inr, ⊎-elim}
-use mathlib.Core.List.{List, [], _∷_, _++_, map}
+use mathlib.Core.List.{List, [], _∷_, _++_, map, map-map}
 use Prim.Native.Nat.{ℕ, zero, suc, _+_, _-_, _<_, _≤_}
 use native.Mathlib.Omega.{arith}
 use native.Mathlib.Nat.{sub-self}
@@ -18,7 +18,8 @@ use Rattle.std.specs.Iters.{counting}
 use Rattle.std.specs.Options.{isSome}
 use Rattle.std.specs.Results.{isOk}
 use Rattle.std.specs.shelf.Lists.{All}
-use Rattle.std.proofs.shelf.Lists.{append-assoc, drop-all, drop-at, drop-drop, drop-more, getD-append-add, getD-append-left, getD-map, length-append, length-map, take-append-drop, take-at}
+use Rattle.std.proofs.shelf.Lists.{append-assoc, drop-all, drop-at, drop-drop, drop-more, getD-append-add, getD-append-left, getD-map, length-append, length-map, map-id, take-append-drop, take-at}
+use Rattle.std.proofs.shelf.Counted.{fill-by-all}
 use Rattle.std.proofs.shelf.Elements.{all-append, all-getD}
 use Rattle.std.proofs.shelf.Tests.{false≢true, cases-lt, cases-eq, cond-true, eq-eqb, lt-ltb, le-leb, and-from, or-left, or-right}
 use Rattle.refusals.specs.declared.Refusal.{Refusal}
@@ -149,20 +150,9 @@ row-is (row ∷ rows) rest pre u (suc i) long l =
     ∙ ap (λ z. sheetRow ((u + length row) ∷ endsOf (u + length row) rows) z i) (sym same)
     ∙ row-is rows rest (pre ++ map entryOf row) (u + length row) i (omega arith) (omega arith)
 
-made-is : {X : Type 0} (f : ℕ → X) (d : X) (xs : List X) (a : ℕ) → ((i : ℕ) → i < length xs → f (a + i) ≡ getD xs i d) → map f (counting a (length xs)) ≡ xs
-made-is f d [] a h = refl
-made-is f d (x ∷ xs) a h =
-    let z : a ≡ a + 0 = omega arith in
-    ap (λ y. y ∷ map f (counting (a + 1) (length xs))) (ap f z ∙ h 0 (omega arith))
-    ∙ ap (λ l. x ∷ l) (made-is f d xs (a + 1) (λ i l. let e : a + 1 + i ≡ a + suc i = omega arith in ap f e ∙ h (suc i) (omega arith)))
-
-pairs-back : (row : List (ℕ × ℕ)) → map pairOf (map entryOf row) ≡ row
-pairs-back [] = refl
-pairs-back (e ∷ es) = ap (λ l. e ∷ l) (pairs-back es)
-
 rows-back : (rows : List (List (ℕ × ℕ))) → map (map pairOf) (map (map entryOf) rows) ≡ rows
 rows-back [] = refl
-rows-back (row ∷ rows) = ap (λ r. r ∷ map (map pairOf) (map (map entryOf) rows)) (pairs-back row) ∙ ap (λ l. row ∷ l) (rows-back rows)
+rows-back (row ∷ rows) = ap (λ r. r ∷ map (map pairOf) (map (map entryOf) rows)) (map-map pairOf entryOf row ∙ map-id row) ∙ ap (λ l. row ∷ l) (rows-back rows)
 
 withRows : Meaning → List (List (ℕ × ℕ)) → Meaning
 withRows m rows = record { carriers = m .carriers; jobs = m .jobs; ceiling = m .ceiling; rows = rows }
@@ -171,19 +161,12 @@ pub means : (m : Meaning) (rest : List Entry) → length (m .rows) ≡ m .carrie
 unfolding withRows
 means m rest counted =
     let rows = m .rows in
-    let n : m .carriers ≡ length (map (map entryOf) (m .rows)) = sym counted ∙ sym (length-map (m .rows) (map entryOf)) in
-    let k = length-map (m .rows) (map entryOf) in
     ap (withRows m)
-    (ap (λ k. map (map pairOf) (map (sheetRow (startsOf rows) (entriesOf rows ++ rest)) (counting 0 k))) n
-    ∙ ap (map (map pairOf)) (made-is (sheetRow (startsOf rows) (entriesOf rows ++ rest)) [] (map (map entryOf) rows) 0
-    (λ i l. let z : 0 + i ≡ i = omega arith in ap (sheetRow (startsOf rows) (entriesOf rows ++ rest)) z ∙ row-is rows rest [] 0 i refl (omega arith) ∙ sym (getD-map (map entryOf) rows i [] [] (omega arith))))
+    (ap (map (map pairOf)) (sym (fill-by-all (sheetRow (startsOf rows) (entriesOf rows ++ rest)) (map (map entryOf) rows) (m .carriers) [] (length-map rows (map entryOf) ∙ counted)
+    (λ i l. getD-map (map entryOf) rows i [] [] (omega (arith, counted)) ∙ sym (row-is rows rest [] 0 i refl (omega (arith, counted))))))
     ∙ rows-back rows)
 
 -- ---- what is accepted is such tables
-
-entries-back : (es : List Entry) → map entryOf (map pairOf es) ≡ es
-entries-back [] = refl
-entries-back (e ∷ es) = ap (λ l. e ∷ l) (entries-back es)
 
 module _ (h : Heading) (starts : List ℕ) (entries : List Entry) (s : Started h starts (length entries)) (faultless : isSome (entryRefusal h starts (listed h starts entries)) ≡ false) where
   -- the rows from the i-th on
@@ -213,7 +196,7 @@ module _ (h : Heading) (starts : List ℕ) (entries : List Entry) (s : Started h
       let end = mono h starts (length entries) s (i + 1) (h .carriers) (omega arith) (omega arith) in
       let next : getD starts i 0 + (getD starts (i + 1) 0 - getD starts i 0) ≡ getD starts (i + 1) 0 = omega arith in
       let whole : (getD starts (i + 1) 0 - getD starts i 0) + (lastOf h starts - getD starts (i + 1) 0) ≡ lastOf h starts - getD starts i 0 = omega arith in
-      ap (λ l. l ++ entriesOf (from (i + 1) n)) (entries-back (sheetRow starts entries i))
+      ap (λ l. l ++ entriesOf (from (i + 1) n)) (map-map entryOf pairOf (sheetRow starts entries i) ∙ map-id (sheetRow starts entries i))
       ∙ ap (λ l. sheetRow starts entries i ++ l) (entries-from (i + 1) n (omega arith)
       ∙ ap (take (lastOf h starts - b)) (ap (λ k. drop k entries) (sym next) ∙ sym (drop-drop (b - a) a entries)))
       ∙ sym (take-add (b - a) (lastOf h starts - b) (drop a entries))

@@ -2,7 +2,7 @@ use mathlib.Core.Path.{sym, subst}
 use native.Mathlib.Omega.{arith}
 use Prim.Native.Nat.{ℕ, _+_}
 use Rattle.sources.specs.Meaning.{rowOf}
-use Rattle.sources.proofs.Reading.{row-len-some, row-len-none, row-rising, entry-some}
+use Rattle.sources.proofs.Reading.{row-len-some, row-len-none, row-rising, entry-read}
 use Rattle.rows.specs.Totals.{BestIn}
 use Rattle.rows.proofs.Entries.{never-none, BestOfFirst, best-of-none, takes, keeps, best-is, no-best, no-row-no-best}
 use Rattle.rows.proofs.best_entry.Needs as need
@@ -28,11 +28,11 @@ loop-k-again g c =
       | in-Some·then-worth-best w ↦
           let at = w .in-Some in
           subst (λ (b : ℕ × ℕ). BestOfFirst (rowOf m i) (k + 1) (b .0) (b .1)) (sym (w .best-is))
-          (takes (rowOf m i) k (best .0) (best .1) (at .job) (at .worth) (omega (arith, long)) (entry-some m i k (at .job, at .worth) (at .ensures tt)) (c .loop-k .inv) (w .if-worth-best .taken))
+          (takes (rowOf m i) k (best .0) (best .1) (at .job) (at .worth) (omega (arith, long)) (entry-read m i k (at .job, at .worth) (at .ensures tt)) (c .loop-k .inv) (w .if-worth-best .taken))
       | in-Some·else-worth-best w ↦
           let at = w .in-Some in
           subst (λ (b : ℕ × ℕ). BestOfFirst (rowOf m i) (k + 1) (b .0) (b .1)) (sym (w .best-is))
-          (keeps (rowOf m i) k (best .0) (best .1) (at .job) (at .worth) (omega (arith, long)) (entry-some m i k (at .job, at .worth) (at .ensures tt)) (c .loop-k .inv)
+          (keeps (rowOf m i) k (best .0) (best .1) (at .job) (at .worth) (omega (arith, long)) (entry-read m i k (at .job, at .worth) (at .ensures tt)) (c .loop-k .inv)
           (row-rising m (g .S·Source .sound (c .args .source .now)) i) (w .if-worth-best .left))
       | in-rest w ↦ absurd (never-none m i (c .in-Continue-len .len) k (c .in-Continue-len .ensures tt) (c .loop-k-test .taken) (w .in-rest .ensures tt))
     ]

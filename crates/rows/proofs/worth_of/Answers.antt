@@ -1,7 +1,7 @@
 use mathlib.Core.Path.{refl, sym, ap}
 use native.Mathlib.Omega.{arith}
 use Rattle.sources.specs.Meaning.{rowOf, worthIn}
-use Rattle.sources.proofs.Reading.{row-len-some, row-len-none, entry-some}
+use Rattle.sources.proofs.Reading.{row-len-some, row-len-none, entry-read}
 use Rattle.rows.proofs.Entries.{never-none, found, passed, not-found}
 use Rattle.rows.proofs.worth_of.Needs as need
 use Rattle.rows.proofs.worth_of.Needs.{in-Some-entry·else-found-job, in-rest-entry}
@@ -19,7 +19,7 @@ returns-then-found-job g c =
     let m = g .S·Source .meaning (c .args .source .now) in
     let at = c .in-Some-entry in
     found (rowOf m (c .args .carrier)) (c .loop-k .k) (at .found) (at .worth) (omega (arith, row-len-some m (c .args .carrier) (c .in-Some .len) (c .in-Some .ensures tt)))
-    (entry-some m (c .args .carrier) (c .loop-k .k) (at .found, at .worth) (at .ensures tt)) (c .args .job) (c .loop-k .inv) (c .if-found-job .taken)
+    (entry-read m (c .args .carrier) (c .loop-k .k) (at .found, at .worth) (at .ensures tt)) (c .args .job) (c .loop-k .inv) (c .if-found-job .taken)
 
 pub loop-k-again : need.loop-k-again
 loop-k-again g c =
@@ -28,7 +28,7 @@ loop-k-again g c =
       | in-Some-entry·else-found-job w ↦
           let at = w .in-Some-entry in
           passed (rowOf m (c .args .carrier)) (c .loop-k .k) (at .found) (at .worth) (omega (arith, row-len-some m (c .args .carrier) (c .in-Some .len) (c .in-Some .ensures tt)))
-          (entry-some m (c .args .carrier) (c .loop-k .k) (at .found, at .worth) (at .ensures tt)) (c .args .job) (c .loop-k .inv) (w .if-found-job .left)
+          (entry-read m (c .args .carrier) (c .loop-k .k) (at .found, at .worth) (at .ensures tt)) (c .args .job) (c .loop-k .inv) (w .if-found-job .left)
       | in-rest-entry w ↦ absurd (never-none m (c .args .carrier) (c .in-Some .len) (c .loop-k .k) (c .in-Some .ensures tt) (c .loop-k-test .taken) (w .in-rest-entry .ensures tt))
     ]
 

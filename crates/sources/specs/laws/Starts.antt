@@ -7,6 +7,7 @@ use native.Mathlib.Omega.{arith}
 use native.Mathlib.Nat.{add-zero}
 use lib.Dec.{leb}
 use lib.ListN.{length, getD}
+use Rattle.std.specs.Orderings.{Decides}
 use Rattle.std.proofs.shelf.Tests.{leb-true, le-leb, eqb-true, and-parts}
 use Rattle.std.proofs.shelf.Ways.{decides-below-and}
 use Rattle.sources.specs.declared.form.Heading.{Heading}
@@ -18,10 +19,10 @@ pub record Started (h : Heading) (starts : List ℕ) (count : ℕ) : Type 0 wher
   pub rises : (k : ℕ) → k < h .carriers → getD starts k 0 ≤ getD starts (k + 1) 0
   pub ends : lastOf h starts ≤ count
 
-pub never-falls : (starts : List ℕ) (n : ℕ) → neverFalls starts n ≡ true → (k : ℕ) → k < n → getD starts k 0 ≤ getD starts (k + 1) 0
+pub never-falls : (starts : List ℕ) (n : ℕ) → Decides (neverFalls starts n) ((k : ℕ) → k < n → getD starts k 0 ≤ getD starts (k + 1) 0)
 never-falls starts n =
     decides-below-and (λ k. leb (getD starts k 0) (getD starts (k + 1) 0)) (λ k. getD starts k 0 ≤ getD starts (k + 1) 0) (neverFalls starts)
-    (λ k. (leb-true (getD starts k 0) (getD starts (k + 1) 0), le-leb (getD starts k 0) (getD starts (k + 1) 0))) refl (λ _. refl) n .0
+    (λ k. (leb-true (getD starts k 0) (getD starts (k + 1) 0), le-leb (getD starts k 0) (getD starts (k + 1) 0))) refl (λ _. refl) n
 
 pub started : (h : Heading) (starts : List ℕ) (count : ℕ) → startsGood h starts count ≡ true → Started h starts count
 started h starts count e =
@@ -31,7 +32,7 @@ started h starts count e =
     record {
       counted = eqb-true (length starts) (h .carriers + 1) (q .0);
       begins = eqb-true (getD starts 0 0) 0 (q .1);
-      rises = never-falls starts (h .carriers) (r .0);
+      rises = never-falls starts (h .carriers) .0 (r .0);
       ends = leb-true (lastOf h starts) count (r .1);
     }
 
