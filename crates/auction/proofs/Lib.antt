@@ -1,0 +1,17 @@
+pub mod Rows
+pub mod Nets
+pub mod Weighed
+pub mod Counted
+pub mod Matching
+pub mod Standings
+pub mod Awards
+pub mod Looks
+pub mod Keeping
+pub mod Invariant
+pub mod LooksFit
+pub mod AwardsFit
+pub mod InvariantKept
+pub mod Laws
+pub mod Paid
+pub mod LawsHold
+pub mod Props

@@ -1,0 +1,5 @@
+pub mod Tally
+pub mod Bids
+pub mod Rules
+pub mod Consistent
+pub mod Shown

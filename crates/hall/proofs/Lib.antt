@@ -1,0 +1,5 @@
+pub mod Keeps
+pub mod Entries
+pub mod Tables
+pub mod Calling
+pub mod Settling

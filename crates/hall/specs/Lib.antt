@@ -1,0 +1,4 @@
+pub mod Kept
+pub mod InBooks
+pub mod Ruled
+pub mod Steps

@@ -1,0 +1,3 @@
+pub mod Items
+pub mod Held
+pub mod Moves

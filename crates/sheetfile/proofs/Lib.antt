@@ -1,0 +1,11 @@
+pub mod Steps
+pub mod Bounds
+pub mod Exact
+pub mod Rows
+pub mod Tables
+pub mod Sheets
+pub mod Overs
+pub mod Loading
+pub mod Writing
+pub mod Again
+pub mod Filling
