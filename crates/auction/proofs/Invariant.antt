@@ -8,7 +8,6 @@ use Rattle.std.specs.declared.option.Option.{Option}
 use Rattle.std.specs.declared.option.Option.the-variants.{Some, None}
 use Rattle.sources.specs.Meaning.{Meaning, rowOf, worthIn}
 use Rattle.auction.specs.declared.standing.Best.{Best}
-use Rattle.auction.specs.declared.standing.Bid.{Bid}
 use Rattle.auction.specs.declared.standing.Held.{Held}
 use Rattle.auction.specs.declared.standing.Standing.{Standing}
 use Rattle.auction.specs.declared.standing.Standing.the-variants.{Waiting, Bidding, Served, Out}

@@ -1,15 +1,14 @@
 -- Start, summon, look and settle keep the invariant.
 use mathlib.Core.Path.{_≡_, refl, sym, ap, subst, _∙_}
-use mathlib.Core.List.{List}
 use mathlib.Core.Logic.{⊎-elim}
-use mathlib.Core.Bool.{Bool, true, false, cond}
-use Prim.Native.Nat.{ℕ, _+_, _^_, _≤_, _<_}
+use mathlib.Core.Bool.{false}
+use Prim.Native.Nat.{ℕ, _≤_, _<_}
 use native.Mathlib.Omega.{arith}
 use lib.Dec.{ltb, leb}
 use lib.IntN.{pos}
 use lib.Signed.{ltZ}
-use lib.ListN.{length, getD, replicate}
-use borrow.Author.Differences.{up, down, lt-true, lt-false}
+use lib.ListN.{length, replicate}
+use borrow.Author.Differences.{lt-true, lt-false}
 use Rattle.std.specs.declared.option.Option.{Option}
 use Rattle.std.specs.declared.option.Option.the-variants.{Some, None}
 use Rattle.std.specs.declared.result.Result.{Result}
@@ -26,8 +25,7 @@ use Rattle.auction.specs.declared.standing.Act.the-variants.{Summon, Look, Set
 use Rattle.auction.specs.declared.standing.Standing.{Standing}
 use Rattle.auction.specs.declared.standing.Standing.the-variants.{Waiting, Bidding, Served, Out}
 use Rattle.auction.specs.declared.standing.Verdict.{Verdict}
-use Rattle.auction.specs.declared.standing.Verdict.the-variants.{Out as GoesOut, Stale, Awarded}
-use Rattle.auction.specs.Tally.{Tally, priceAt, holderAt, standingAt}
+use Rattle.auction.specs.Tally.{Tally, priceAt, standingAt}
 use Rattle.auction.specs.Bids.{fresh, lookedOn, offer, judgedBest, bestWorth}
 use Rattle.auction.specs.Rules.{startAnswer, startTallyBy, opened, lookedAll, bidAfter, bidAt, taken, once, stands, counted, bids, called, countedOut, countedStale, carriedOut, ended, settled}
 use Rattle.auction.specs.Consistent.{BidSound, StandingSound}

@@ -2,20 +2,20 @@
 use mathlib.Core.Path.{_≡_, refl, sym, ap, subst, _∙_}
 use mathlib.Core.List.{List}
 use mathlib.Core.Logic.{⊎-elim}
-use mathlib.Core.Bool.{Bool, true, false, cond}
+use mathlib.Core.Bool.{true, false}
 use Prim.Native.Nat.{ℕ, _+_, _-_, _*_, _^_, _≤_, _<_}
 use native.Mathlib.Nat.{mul-le-mul}
 use native.Mathlib.Omega.{arith}
 use lib.Dec.{ltb, leb}
 use lib.IntN.{pos}
 use lib.Signed.{ltZ}
-use lib.ListN.{length, getD, replicate}
-use borrow.Author.Differences.{up, down, lt-true}
+use lib.ListN.{getD, replicate}
+use borrow.Author.Differences.{lt-true}
 use Rattle.std.specs.declared.option.Option.{Option}
 use Rattle.std.specs.declared.option.Option.the-variants.{Some, None}
 use Rattle.std.specs.declared.result.Result.{Result}
-use Rattle.std.specs.declared.result.Result.the-variants.{Ok, Err}
-use Rattle.std.specs.shelf.Lists.{All, sum, countBy}
+use Rattle.std.specs.declared.result.Result.the-variants.{Ok}
+use Rattle.std.specs.shelf.Lists.{sum, countBy}
 use Rattle.std.proofs.shelf.Tests.{cases-lt, cond-both, ltb-true, leb-true, leb-false}
 use Rattle.std.proofs.shelf.Ways.{tells}
 use Rattle.std.proofs.shelf.Lists.{getD-past, getD-replicate, length-replicate}
@@ -30,10 +30,10 @@ use Rattle.auction.specs.declared.standing.Act.the-variants.{Summon, Look, Set
 use Rattle.auction.specs.declared.standing.Standing.{Standing}
 use Rattle.auction.specs.declared.standing.Standing.the-variants.{Waiting, Bidding, Served, Out}
 use Rattle.auction.specs.declared.standing.Verdict.{Verdict}
-use Rattle.auction.specs.declared.standing.Verdict.the-variants.{Out as GoesOut, Stale, Awarded}
-use Rattle.auction.specs.Tally.{Tally, priceAt, holderAt, standingAt, isServed, isBidding, isOut, holdsJob, isHolder}
+use Rattle.auction.specs.declared.standing.Verdict.the-variants.{Out as GoesOut, Stale}
+use Rattle.auction.specs.Tally.{Tally, priceAt, standingAt, isServed, isBidding, isOut, holdsJob, isHolder}
 use Rattle.auction.specs.Bids.{fresh, lookedOn, offer, judgedBest, bestWorth}
-use Rattle.auction.specs.Rules.{startAnswer, noCounts, opened, lookedAll, bidAfter, bidAt, taken, stands, counted, bids, called, countedOut, countedStale, carriedOut, ended, settled}
+use Rattle.auction.specs.Rules.{startAnswer, opened, lookedAll, bidAfter, bidAt, taken, stands, counted, bids, called, countedOut, countedStale, carriedOut, ended}
 use Rattle.auction.specs.Consistent.{Limits, BidSound, StandingSound, Consistent, bestRisen, isRisen}
 use Rattle.auction.proofs.Rows.{row-known, row-within}
 use Rattle.auction.proofs.Counted.{one, none-counted}

@@ -13,7 +13,6 @@ use Rattle.auction.specs.declared.standing.Award.{Award}
 use Rattle.auction.specs.declared.standing.Best.{Best}
 use Rattle.auction.specs.declared.standing.Bid.{Bid}
 use Rattle.auction.specs.declared.standing.Held.{Held}
-use Rattle.auction.specs.declared.standing.Verdict.{Verdict}
 use Rattle.auction.specs.declared.standing.Verdict.the-variants.{Stale, Awarded}
 use Rattle.auction.specs.declared.standing.Standing.{Standing}
 use Rattle.auction.specs.declared.standing.Standing.the-variants.{Waiting, Bidding, Served, Out}

@@ -1,7 +1,7 @@
 -- The laws of the auction, from the invariant.
 use mathlib.Core.Path.{_≡_, refl, sym, ap, subst, _∙_}
 use mathlib.Core.List.{List, [], _∷_, map}
-use mathlib.Core.Logic.{_⊎_, inl, inr, ⊎-elim}
+use mathlib.Core.Logic.{_⊎_, ⊎-elim}
 use mathlib.Core.Bool.{Bool, true, false, cond}
 use Prim.Native.Nat.{ℕ, zero, suc, _+_, _-_, _*_, _^_, _≤_, _<_}
 use native.Mathlib.Nat.{mul-le-mul-left}
@@ -11,13 +11,12 @@ use lib.IntN.{pos, _-ℤ_}
 use lib.Signed.{ltZ}
 use borrow.Author.Differences.{up, down, lt-true}
 use lib.ListN.{length, getD}
-use Rattle.std.specs.shelf.Lists.{sum, sumBy, countBy, All}
+use Rattle.std.specs.shelf.Lists.{sumBy, countBy, All}
 use Rattle.std.specs.declared.option.Option.{Option}
 use Rattle.std.specs.declared.option.Option.the-variants.{Some, None}
 use Rattle.std.proofs.shelf.Tests.{cases-lt, cond-both, both-ways, leb-true}
 use Rattle.std.proofs.shelf.Lists.{length-map, getD-map, getD-past}
-use Rattle.std.proofs.shelf.Sums.{sumBy-cons, sumBy-le, countBy-le-length}
-use Rattle.std.proofs.shelf.Elements.{all-from-getD}
+use Rattle.std.proofs.shelf.Sums.{sumBy-cons, countBy-le-length}
 use Rattle.sources.specs.Meaning.{Meaning, Sound, rowOf, worthIn, worthOf}
 use Rattle.sources.specs.Layers.{scaled, revaluedRow, timesOf}
 use Rattle.auction.specs.declared.standing.Award.{Award}
@@ -28,7 +27,7 @@ use Rattle.auction.specs.declared.standing.Verdict.the-variants.{Out as GoesOu
 use Rattle.auction.specs.declared.standing.Held.{Held}
 use Rattle.auction.specs.declared.standing.Standing.{Standing}
 use Rattle.auction.specs.declared.standing.Standing.the-variants.{Waiting, Bidding, Served, Out}
-use Rattle.auction.specs.Tally.{Tally, priceAt, holderAt, standingAt, isServed, isBidding}
+use Rattle.auction.specs.Tally.{Tally, priceAt, holderAt, standingAt, isServed}
 use Rattle.auction.specs.Bids.{natural, offer, judgedBest}
 use Rattle.auction.specs.Rules.{verdictIn}
 use Rattle.auction.specs.Consistent.{BestSound, BidSound, StandingSound}

@@ -1,14 +1,12 @@
 -- A look keeps a bid sound, and finds no price risen that had not risen before.
-use mathlib.Core.Path.{_≡_, refl, sym, ap, _∙_}
+use mathlib.Core.Path.{_≡_, ap}
 use mathlib.Core.List.{List, [], _∷_}
-use mathlib.Core.Bool.{Bool, true, false, cond}
-use Prim.Native.Nat.{ℕ, _+_, _≤_, _<_, max}
+use Prim.Native.Nat.{ℕ, _≤_, _<_, max}
 use native.Mathlib.Omega.{arith}
 use lib.Dec.{eqb}
 use lib.IntN.{pos, _-ℤ_}
-use lib.Signed.{_≤ℤ_}
 use lib.ListN.{getD, take, drop}
-use borrow.Author.Differences.{up, down, ints}
+use borrow.Author.Differences.{up, ints}
 use Rattle.std.specs.declared.option.Option.{Option}
 use Rattle.std.specs.declared.option.Option.the-variants.{Some, None}
 use Rattle.std.specs.shelf.Lists.{All, folded}

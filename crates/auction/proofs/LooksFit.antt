@@ -1,8 +1,7 @@
 -- A look keeps a bid fitting its row.
 use mathlib.Core.Path.{_≡_, refl, sym, ap, subst, _∙_}
-use mathlib.Core.List.{List, [], _∷_}
+use mathlib.Core.List.{List}
 use mathlib.Core.Logic.{⊎-elim}
-use mathlib.Core.Bool.{Bool, true, false, cond}
 use Prim.Native.Nat.{ℕ, zero, suc, _+_, _≤_, _<_, max}
 use native.Mathlib.Omega.{arith}
 use lib.Dec.{eqb}
@@ -21,7 +20,7 @@ use Rattle.auction.proofs.Rows.{jobIn, worthOn, listed}
 use Rattle.auction.proofs.Nets.{natural-up, net-is}
 use Rattle.auction.proofs.Looks.{newBest}
 use Rattle.auction.proofs.Weighed.{weighed-looked}
-use Rattle.auction.proofs.Invariant.{BestFits, BidFits, StandingFits}
+use Rattle.auction.proofs.Invariant.{BestFits, BidFits}
 
 module _ (ps : List ℕ) (row : List (ℕ × ℕ)) (rise : Rising 0 row) where
   abbrev entry : ℕ → ℕ × ℕ

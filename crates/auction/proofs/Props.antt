@@ -1,9 +1,8 @@
 -- That a tally is consistent has one proof at most, so that a ghost field can carry it.
 use Prim.{IsProp}
-use mathlib.Core.Path.{_≡_}
 use mathlib.Core.Bool.{Bool-set}
 use mathlib.Core.HLevel.{Unit-prop}
-use Prim.Native.Nat.{ℕ, _+_, _-_, _*_}
+use Prim.Native.Nat.{ℕ, _+_, _-_}
 use native.Mathlib.Bridge.{le-prop}
 use native.Mathlib.Nat.{ℕ-set}
 use lib.Dec.{T-prop}
@@ -17,7 +16,7 @@ use Rattle.auction.specs.declared.standing.Best.{Best}
 use Rattle.auction.specs.declared.standing.Standing.{Standing}
 use Rattle.auction.specs.declared.standing.Standing.the-variants.{Waiting, Bidding, Served, Out}
 use Rattle.auction.specs.Tally.{Tally, priceAt, holderAt, standingAt, isBidding, isOut, holdsJob, isHolder}
-use Rattle.auction.specs.Consistent.{Limits, BestSound, BidSound, StandingSound, Consistent}
+use Rattle.auction.specs.Consistent.{Limits, BidSound, StandingSound, Consistent}
 
 leZ-prop : (a b : ℤ) → IsProp (a ≤ℤ b)
 leZ-prop a b p q = λ i. record { le = T-prop (leZ a b) (p .le) (q .le) i }

@@ -11,7 +11,6 @@ use Rattle.std.specs.declared.option.Option.the-variants.{Some, None}
 use Rattle.std.specs.shelf.Lists.{folded}
 use Rattle.auction.specs.declared.standing.Best.{Best}
 use Rattle.auction.specs.declared.standing.Bid.{Bid}
-use Rattle.auction.specs.declared.standing.Award.{Award}
 use Rattle.auction.specs.declared.standing.Verdict.{Verdict}
 use Rattle.auction.specs.declared.standing.Verdict.the-variants.{Out, Stale, Awarded}
 

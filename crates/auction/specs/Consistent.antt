@@ -10,8 +10,6 @@ use Rattle.std.specs.declared.option.Option.{Option}
 use Rattle.std.specs.declared.option.Option.the-variants.{Some, None}
 use Rattle.std.specs.shelf.Lists.{sum, countBy}
 use Rattle.auction.specs.declared.standing.Best.{Best}
-use Rattle.auction.specs.declared.standing.Bid.{Bid}
-use Rattle.auction.specs.declared.standing.Held.{Held}
 use Rattle.auction.specs.declared.standing.Standing.{Standing}
 use Rattle.auction.specs.declared.standing.Standing.the-variants.{Waiting, Bidding, Served, Out}
 use Rattle.auction.specs.Bids.{natural}

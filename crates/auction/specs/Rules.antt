@@ -14,8 +14,6 @@ use Rattle.refusals.specs.declared.Refusal.{Refusal}
 use Rattle.refusals.specs.declared.Refusal.the-variants.{CountsOutside, NeverStarted, StepOutside, LanesOutside, NoSuchCarrier, NotWaiting, NoOpenBid, RowLookedAt, RowNotLookedAt}
 use Rattle.auction.specs.declared.standing.Bid.{Bid}
 use Rattle.auction.specs.declared.standing.Counts.{Counts}
-use Rattle.auction.specs.declared.standing.Held.{Held}
-use Rattle.auction.specs.declared.standing.Award.{Award}
 use Rattle.auction.specs.declared.standing.Act.{Act}
 use Rattle.auction.specs.declared.standing.Act.the-variants.{Summon, Look, Settle}
 use Rattle.auction.specs.declared.standing.Standing.{Standing}

@@ -62,7 +62,11 @@ fn push_row(
 pub fn sheet_file(heap: Global, random: &mut Random) -> Result<Vec<u8>, AllocError> {
     let mut bytes = Vec::new(heap);
     let carriers = random.below(4).saturating_add(1);
-    let (jobs, step) = if random.below(2) == 0 { (16, 4) } else { (256, 60) };
+    let (jobs, step) = if random.below(2) == 0 {
+        (16, 4)
+    } else {
+        (256, 60)
+    };
     let ceiling = match random.below(3) {
         0 => 9,
         1 => 300,

@@ -23,7 +23,11 @@ use tally::Tally;
 use tally::TallyDisplay;
 
 // Fills a sheet from tables that were loaded, and gives the heading.
-fn filled<'a>(heading: Heading, starts: &'a [usize], entries: &'a [Entry]) -> Result<Heading, Fault> {
+fn filled<'a>(
+    heading: Heading,
+    starts: &'a [usize],
+    entries: &'a [Entry],
+) -> Result<Heading, Fault> {
     let Some(front) = starts.get(0..heading.carriers.saturating_add(1)) else {
         return Err(Fault::bare(Refusal::TooShort));
     };
@@ -71,8 +75,7 @@ fn agrees(bytes: &[u8]) -> bool {
     let whole = load(bytes, &mut starts, &mut entries);
     let by_states = load_by_states(bytes, &mut starts_by_states, &mut entries_by_states);
     match (whole, by_states) {
-        (Ok(a), Ok(b)) =>
-            a == b && starts == starts_by_states && entries == entries_by_states,
+        (Ok(a), Ok(b)) => a == b && starts == starts_by_states && entries == entries_by_states,
         (Err(a), Err(b)) => a == b,
         _ => false,
     }

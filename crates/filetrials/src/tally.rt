@@ -41,7 +41,10 @@ pub impl fmt::Display for Tally as TallyDisplay {
     fn fmt<W: fmt::Write>(&self, f: &mut fmt::Formatter<W>) -> fmt::Result {
         let same = self.same;
         let wrong = self.wrong;
-        write!(f, "{same} accepted and the same when written again, {wrong} wrong")?;
+        write!(
+            f,
+            "{same} accepted and the same when written again, {wrong} wrong"
+        )?;
         let refused = self.refused;
         for (number, count) in refused.iter().enumerate() {
             if *count > 0 {

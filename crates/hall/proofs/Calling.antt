@@ -1,12 +1,11 @@
 -- A call on a carrier: what is answered, and the tally after it.
-use mathlib.Core.Path.{_≡_, refl, sym, ap, subst, _∙_}
-use mathlib.Core.List.{List}
+use mathlib.Core.Path.{_≡_, refl, sym, ap, _∙_}
 use mathlib.Core.Bool.{Bool, true, false, cond}
 use mathlib.Core.Logic.{⊎-elim}
-use Prim.Native.Nat.{ℕ, _+_, _^_, _<_, _≤_}
+use Prim.Native.Nat.{ℕ, _<_}
 use native.Mathlib.Omega.{arith}
 use lib.Dec.{ltb}
-use lib.ListN.{length, getD, set, take}
+use lib.ListN.{getD, set, take}
 use Rattle.std.specs.declared.option.Option.{Option}
 use Rattle.std.specs.declared.option.Option.the-variants.{Some, None}
 use Rattle.std.specs.declared.result.Result.{Result}
@@ -24,7 +23,6 @@ use Rattle.auction.specs.declared.standing.Standing.{Standing}
 use Rattle.auction.specs.declared.standing.Standing.the-variants.{Waiting, Bidding}
 use Rattle.auction.specs.Tally.{Tally}
 use Rattle.auction.specs.Rules.{bidAfter, bidAt, bidBy, once, taken, stands, bids, called}
-use Rattle.auction.specs.Consistent.{Consistent}
 use Rattle.auction.proofs.Keeping.{call-consistent}
 use Rattle.hall.specs.declared.books.Books.{Books}
 use Rattle.hall.specs.Kept.{Kept, tallyHeld}

@@ -1,9 +1,9 @@
 -- A settled bid: the verdict, what carrying it out leaves in the tables, and the tally after.
 use mathlib.Core.Path.{_≡_, refl, sym, ap, subst, _∙_}
 use mathlib.Core.List.{List}
-use mathlib.Core.Bool.{Bool, true, false, cond}
+use mathlib.Core.Bool.{true, cond}
 use mathlib.Core.Logic.{⊎-elim}
-use Prim.Native.Nat.{ℕ, _+_, _^_, _<_, _≤_}
+use Prim.Native.Nat.{ℕ, _^_, _<_, _≤_}
 use native.Mathlib.Omega.{arith}
 use lib.Dec.{leb}
 use lib.IntN.{pos}
@@ -11,7 +11,6 @@ use lib.Signed.{ltZ}
 use lib.ListN.{length, getD, set, take}
 use Rattle.std.specs.declared.option.Option.{Option}
 use Rattle.std.specs.declared.option.Option.the-variants.{Some, None}
-use Rattle.std.specs.declared.result.Result.{Result}
 use Rattle.std.specs.declared.result.Result.the-variants.{Ok, Err}
 use Rattle.std.proofs.shelf.Lists.{length-set, getD-take, set-getD}
 use Rattle.std.proofs.shelf.Tests.{cond-both, cases-bool}
@@ -19,7 +18,6 @@ use Rattle.sources.specs.Meaning.{Meaning, rowOf}
 use Rattle.refusals.specs.declared.Refusal.{Refusal}
 use Rattle.auction.specs.declared.standing.Best.{Best}
 use Rattle.auction.specs.declared.standing.Bid.{Bid}
-use Rattle.auction.specs.declared.standing.Held.{Held}
 use Rattle.auction.specs.declared.standing.Award.{Award}
 use Rattle.auction.specs.declared.standing.Act.the-variants.{Settle}
 use Rattle.auction.specs.declared.standing.Standing.{Standing}
@@ -29,7 +27,7 @@ use Rattle.auction.specs.declared.standing.Verdict.the-variants.{Out as GoesOut
 use Rattle.auction.specs.Tally.{Tally, holderAt, standingAt}
 use Rattle.auction.specs.Bids.{offer, judgedBest, judged, bestWorth}
 use Rattle.auction.specs.Consistent.{Consistent, BidSound, StandingSound}
-use Rattle.auction.specs.Rules.{bidAt, bidBy, once, taken, bids, called, freed, countedOut, countedStale, countedAward, carriedOut, verdictIn, verdictFrom, ended, settleAnswer, settleTally}
+use Rattle.auction.specs.Rules.{bidBy, once, taken, bids, called, freed, countedOut, countedStale, countedAward, carriedOut, verdictIn, verdictFrom, ended, settleAnswer, settleTally}
 use Rattle.auction.proofs.Matching.{length-freed, holder-known}
 use Rattle.auction.proofs.Keeping.{ended-consistent, settle-stands}
 use Rattle.hall.specs.declared.books.Books.{Books}

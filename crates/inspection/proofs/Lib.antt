@@ -1,2 +1,1 @@
-mod Exact
-mod Glued
+pub mod Lines

@@ -1,3 +1,2 @@
-pub mod Survey
 pub mod Listing
-pub mod Laws
+pub mod Inspected

@@ -12,7 +12,7 @@ use Rattle.refusals.specs.declared.Refusal.the-variants.{TooShort}
 use Rattle.rings.specs.declared.moves.Move.{Move}
 use Rattle.rings.specs.declared.moves.Move.the-variants.{Push, Pop}
 use Rattle.rings.specs.declared.moves.Outcome.{Outcome}
-use Rattle.rings.specs.declared.moves.Outcome.the-variants.{Pushed, Refused, Popped}
+use Rattle.rings.specs.declared.moves.Outcome.the-variants.{Pushed, Refused}
 use Rattle.rings.specs.Moves.{listAfter, outcomeOf, listAfterAll, outcomesOf, pushedBy, allPushed, poppedBy, allPopped, Performed}
 
 -- One move keeps the order.

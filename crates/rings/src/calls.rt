@@ -6,7 +6,7 @@ ghost use Rattle.std.specs.Vec.{listOf, refused};
 ghost use lib.Dec.{eqb, ltb};
 ghost use lib.ListN.{length};
 ghost use mathlib.Core.Bool.{cond, false};
-ghost use mathlib.Core.List.{List, [], _++_, _∷_};
+ghost use mathlib.Core.List.{[], _++_, _∷_};
 ghost use mathlib.Core.Path.{_≡_};
 use super::Ring;
 use refusals::Refusal;

@@ -89,6 +89,9 @@ module _ (bs starts : List ℕ) (entries : List Entry) (typed : (i : ℕ) → Fi
     pub whole : (m : Meaning) × (loaded bs (length starts) (length entries) ≡ Ok m) × (h ≡ headingOf m)
     whole = heading-ok (loaded bs (length starts) (length entries)) h told
 
+    pub whole-file : SheetFile bs (whole .0)
+    whole-file = file (whole .0) (whole .1)
+
     pub carriers-few : h .carriers ≤ 128
     carriers-few = omega (arith, ap (λ (x : Heading). x .carriers) (whole .2), bounded (whole .0) (file (whole .0) (whole .1) .bounded) .headed .carriers-high)
 

@@ -2,10 +2,12 @@
 ghost use mathlib.Core.Path.{_≡_};
 ghost use lib.ListN.{length};
 ghost use Rattle.sheetfile.specs.Laws.{LoadsExactly};
+ghost use Rattle.sheetfile.specs.Layout.{SheetFile};
 ghost use Rattle.sheetfile.specs.Reading.{loaded};
 ghost use Rattle.sheetfile.specs.Steps.{updated, withoutValue};
 ghost use Rattle.sheetfile.specs.Tables.{entriesAfter, headingAnswer, startsAfter};
 ghost use Rattle.sources.specs.OfSheet.{sheetMeaning};
+ghost use Rattle.std.specs.Vec.{made};
 use crate::loader::Bare;
 use crate::parts::heading_in;
 use crate::parts::row_in;
@@ -61,6 +63,7 @@ pub fn load_sheet<'a>(
 ) -> Result<(), Fault>
     ensures answer { λ r. ⌜ r ≡ withoutValue (loaded (now (bytes .entry)) (length (now (starts .entry))) (length (now (entries .entry)))) ⌝ }
     ensures sheet { λ _. ⌜ sheetMeaning (now (sheet .exit)) ≡ updated (loaded (now (bytes .entry)) (length (now (starts .entry))) (length (now (entries .entry)))) (sheetMeaning (now (sheet .entry))) (λ m. m) ⌝ }
+    ensures file { λ r. ⌜ made r (λ _. SheetFile (now (bytes .entry)) (sheetMeaning (now (sheet .exit)))) ⌝ }
 {
     let heading = load(bytes, starts, entries)?;
     match sheet.fill(heading, &starts[..heading.carriers + 1], entries) {

@@ -1,7 +1,6 @@
-use mathlib.Core.Path.{_≡_, refl, sym, ap}
-use mathlib.Core.Logic.{_⊎_, inl, inr}
+use mathlib.Core.Path.{_≡_, refl, sym}
+use mathlib.Core.Logic.{inl, inr}
 use native.Mathlib.Omega.{arith}
-use lib.Dec.{ltb}
 use lib.ListN.{length}
 use mathlib.Core.Bool.{true}
 use Rattle.std.proofs.shelf.Tests.{both-ways, lt-ltb, le-ltb}

@@ -1,14 +1,12 @@
 -- An entry that is there has a known job and a worth under the ceiling, and is the next of what is left to look at.
 use borrow.Author.Needs.{needs}
 use mathlib.Core.Path.{_≡_, sym, ap, _∙_, subst}
-use Prim.Native.Nat.{ℕ, _+_, _-_, _^_, _<_, _≤_}
+use Prim.Native.Nat.{_+_, _-_, _^_, _<_, _≤_}
 use native.Mathlib.Omega.{arith}
-use lib.ListN.{length, getD, take, drop}
-use Rattle.std.specs.declared.option.Option.the-variants.{Some, None}
-use Rattle.std.specs.Finite.{nth}
+use lib.ListN.{getD, take, drop}
 use Rattle.std.specs.shelf.Lists.{folded}
 use Rattle.std.proofs.shelf.Lists.{getD-take}
-use Rattle.auction.specs.Bids.{weighed, weighedAt}
+use Rattle.auction.specs.Bids.{weighed}
 use Rattle.sources.specs.Meaning.{rowOf}
 use Rattle.hall.proofs.Entries.{entry-some, entry-none, entry-known, entry-within, nth-below, weighed-cut, fold-step, fold-done, fold-past}
 use Rattle.hall.proofs.books.calls.look_on.Needs as need
