@@ -6,6 +6,7 @@ pub mod Matching
 pub mod Standings
 pub mod Awards
 pub mod Looks
+pub mod Gathering
 pub mod Keeping
 pub mod Invariant
 pub mod LooksFit

@@ -4,7 +4,6 @@ use mathlib.Core.List.{List, [], _∷_}
 use Prim.Native.Nat.{ℕ, _≤_, _<_, max}
 use native.Mathlib.Omega.{arith}
 use lib.Dec.{eqb}
-use lib.IntN.{pos, _-ℤ_}
 use lib.ListN.{getD, take, drop}
 use borrow.Author.Differences.{up, ints}
 use Rattle.std.specs.declared.option.Option.{Option}
@@ -15,13 +14,10 @@ use Rattle.std.proofs.shelf.Tests.{cond-both}
 use Rattle.auction.specs.declared.standing.Best.{Best}
 use Rattle.auction.specs.declared.standing.Bid.{Bid}
 use Rattle.auction.specs.Bids.{natural, beats, ranked, weighed, lookedOn}
+use Rattle.auction.specs.Looks.{netAt}
 use Rattle.auction.specs.Consistent.{BestSound, BidSound, bestRisen}
 use Rattle.auction.proofs.Counted.{one}
 use Rattle.auction.proofs.Nets.{natural-up, sides, net-is, beats-true, beats-false, risen-false}
-
--- An entry as a new best, at the price of its job.
-abbrev pub newBest : List ℕ → ℕ × ℕ → Best
-newBest ps e = record { net = pos (e .1) -ℤ pos (getD ps (e .0) 0); job = e .0; worth = e .1 }
 
 module _ (jobs ceiling : ℕ) (ps : List ℕ) where
   -- The bid is sound, and its best job's price has risen only if that of the old one had.
@@ -29,24 +25,24 @@ module _ (jobs ceiling : ℕ) (ps : List ℕ) where
   StaysSound old b = BidSound jobs ceiling (b .«runner_up») (b .best) × (one (bestRisen ps (b .best)) ≤ one (bestRisen ps old))
 
   -- A best that was just seen.
-  seen-now : (r : ℕ) (e : ℕ × ℕ) → e .0 < jobs → e .1 ≤ ceiling → r ≤ up (newBest ps e .net) → BestSound jobs ceiling r (newBest ps e)
+  seen-now : (r : ℕ) (e : ℕ × ℕ) → e .0 < jobs → e .1 ≤ ceiling → r ≤ up (netAt ps e .net) → BestSound jobs ceiling r (netAt ps e)
   seen-now r e j w h = record {
     known = j;
     low-worth = w;
     low-net = omega (arith, ints);
-    low-runner = omega (arith, natural-up (newBest ps e .net), h);
+    low-runner = omega (arith, natural-up (netAt ps e .net), h);
   }
 
-  unrisen : (e : ℕ × ℕ) → one (bestRisen ps (Some (newBest ps e))) ≡ 0
-  unrisen e = ap one (risen-false ps (newBest ps e) (let n = net-is (e .1) (getD ps (e .0) 0) in omega (arith, n)))
+  unrisen : (e : ℕ × ℕ) → one (bestRisen ps (Some (netAt ps e))) ≡ 0
+  unrisen e = ap one (risen-false ps (netAt ps e) (let n = net-is (e .1) (getD ps (e .0) 0) in omega (arith, n)))
 
-  ranked-sound : (b : Bid) (o : Option Best) (e : ℕ × ℕ) → e .0 < jobs → e .1 ≤ ceiling → BidSound jobs ceiling (b .«runner_up») o → StaysSound o (ranked b o (newBest ps e))
+  ranked-sound : (b : Bid) (o : Option Best) (e : ℕ × ℕ) → e .0 < jobs → e .1 ≤ ceiling → BidSound jobs ceiling (b .«runner_up») o → StaysSound o (ranked b o (netAt ps e))
   ranked-sound b None e j w h = (seen-now (b .«runner_up») e j w (omega (arith, h)), omega (arith, unrisen e))
   ranked-sound b (Some old) e j w h =
-      cond-both {A = Bid} (beats (newBest ps e) old) _ _ (StaysSound (Some old))
-      (λ t. let a = beats-true (newBest ps e) old t in let c = natural-up (old .net) in let d = sides (old .net) in let u = h .low-runner in
+      cond-both {A = Bid} (beats (netAt ps e) old) _ _ (StaysSound (Some old))
+      (λ t. let a = beats-true (netAt ps e) old t in let c = natural-up (old .net) in let d = sides (old .net) in let u = h .low-runner in
       (seen-now (max (b .«runner_up») (natural (old .net))) e j w (omega (arith, a, c, d, u)), omega (arith, unrisen e)))
-      (λ t. let a = beats-false (newBest ps e) old t in let c = natural-up (newBest ps e .net) in let d = sides (newBest ps e .net) in let u = h .low-runner in let v = natural-up (old .net) in
+      (λ t. let a = beats-false (netAt ps e) old t in let c = natural-up (netAt ps e .net) in let d = sides (netAt ps e .net) in let u = h .low-runner in let v = natural-up (old .net) in
       (record { known = h .known; low-worth = h .low-worth; low-net = h .low-net; low-runner = omega (arith, a, c, d, u, v) }, omega arith))
 
   pub weighed-sound : (b : Bid) (e : ℕ × ℕ) → e .0 < jobs → e .1 ≤ ceiling → BidSound jobs ceiling (b .«runner_up») (b .best) → StaysSound (b .best) (weighed ps b e)

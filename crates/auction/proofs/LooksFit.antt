@@ -15,10 +15,10 @@ use Rattle.std.proofs.shelf.Lists.{drop-more, drop-all}
 use Rattle.sources.specs.Meaning.{worthIn, Rising}
 use Rattle.auction.specs.declared.standing.Best.{Best}
 use Rattle.auction.specs.declared.standing.Bid.{Bid}
+use Rattle.auction.specs.Looks.{netAt}
 use Rattle.auction.specs.Bids.{natural, beats, ranked, weighed, lookedOn}
 use Rattle.auction.proofs.Rows.{jobIn, worthOn, listed}
 use Rattle.auction.proofs.Nets.{natural-up, net-is}
-use Rattle.auction.proofs.Looks.{newBest}
 use Rattle.auction.proofs.Weighed.{weighed-looked}
 use Rattle.auction.proofs.Invariant.{BestFits, BidFits}
 
@@ -39,7 +39,7 @@ module _ (ps : List ℕ) (row : List (ℕ × ℕ)) (rise : Rising 0 row) where
     others = below-more (λ k. (jobIn row k ≡ x .job → ⊥) → worthOn row k ≤ getD ps (jobIn row k) 0 + r) n (g .others) (λ _. omega arith);
   }
 
-  new-best : (n r : ℕ) → n < length row → (worthOn row n ≡ 0 → ⊥) → ((k : ℕ) → k < n → worthOn row k ≤ getD ps (jobIn row k) 0 + r) → BestFits ps row (n + 1) r (newBest ps (entry n))
+  new-best : (n r : ℕ) → n < length row → (worthOn row n ≡ 0 → ⊥) → ((k : ℕ) → k < n → worthOn row k ≤ getD ps (jobIn row k) 0 + r) → BestFits ps row (n + 1) r (netAt ps (entry n))
   new-best n r l some each =
       let e = net-is (worthOn row n) (getD ps (jobIn row n) 0) in
       record {
@@ -50,10 +50,10 @@ module _ (ps : List ℕ) (row : List (ℕ × ℕ)) (rise : Rising 0 row) where
       }
 
   ranked-fits : (b : Bid) (o : Option Best) → b .looked < length row → (worthOn row (b .looked) ≡ 0 → ⊥) → BidFits ps row (b .looked) (b .«runner_up») o →
-      BidFitsRow (ranked b o (newBest ps (entry (b .looked))))
+      BidFitsRow (ranked b o (netAt ps (entry (b .looked))))
   ranked-fits b None l some g = (omega arith, new-best (b .looked) (b .«runner_up») l some (λ k h. let w = g k h in omega (arith, w)))
   ranked-fits b (Some old) l some g =
-      cond-both {A = Bid} (beats (newBest ps (entry n)) old) _ _ BidFitsRow
+      cond-both {A = Bid} (beats (netAt ps (entry n)) old) _ _ BidFitsRow
       (λ _. (omega arith, new-best n (max r (natural (old .net))) l some was))
       (λ _. (
         omega arith,
@@ -61,9 +61,9 @@ module _ (ps : List ℕ) (row : List (ℕ × ℕ)) (rise : Rising 0 row) where
           worth-is = g .worth-is;
           worthy = g .worthy;
           seen = g .seen;
-          others = below-more (λ k. (jobIn row k ≡ old .job → ⊥) → worthOn row k ≤ getD ps (jobIn row k) 0 + max r (natural (newBest ps (entry n) .net))) n
+          others = below-more (λ k. (jobIn row k ≡ old .job → ⊥) → worthOn row k ≤ getD ps (jobIn row k) 0 + max r (natural (netAt ps (entry n) .net))) n
               (λ k h ne. let w = g .others k h ne in omega (arith, w))
-              (λ _. let e = net-is (worthOn row n) (getD ps (jobIn row n) 0) in let c = natural-up (newBest ps (entry n) .net) in omega (arith, e, c));
+              (λ _. let e = net-is (worthOn row n) (getD ps (jobIn row n) 0) in let c = natural-up (netAt ps (entry n) .net) in omega (arith, e, c));
         },
       ))
     where

@@ -25,9 +25,6 @@ some-same e = cc
 pub none-some : {A : Type 0} {a : A} → None ≡ Some a → ⊥
 none-some e = let z : _≡_ {A = ℕ} 0 1 = cc in omega arith
 
-pub not-served : (s : Standing) (h : Held) → isServed s ≡ false → s ≡ Served h → ⊥
-not-served s h n e = both-ways (isServed s) n (ap isServed e)
-
 -- Who is not served holds no job.
 pub holds-none : (j : ℕ) (s : Standing) → isServed s ≡ false → holdsJob j s ≡ false
 holds-none j Waiting e = refl

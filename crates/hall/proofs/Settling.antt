@@ -2,7 +2,6 @@
 use mathlib.Core.Path.{_≡_, refl, sym, ap, subst, _∙_}
 use mathlib.Core.List.{List}
 use mathlib.Core.Bool.{true, cond}
-use mathlib.Core.Logic.{⊎-elim}
 use Prim.Native.Nat.{ℕ, _^_, _<_, _≤_}
 use native.Mathlib.Omega.{arith}
 use lib.Dec.{leb}
@@ -11,11 +10,10 @@ use lib.Signed.{ltZ}
 use lib.ListN.{length, getD, set, take}
 use Rattle.std.specs.declared.option.Option.{Option}
 use Rattle.std.specs.declared.option.Option.the-variants.{Some, None}
-use Rattle.std.specs.declared.result.Result.the-variants.{Ok, Err}
+use Rattle.std.specs.declared.result.Result.the-variants.{Ok}
 use Rattle.std.proofs.shelf.Lists.{length-set, getD-take, set-getD}
-use Rattle.std.proofs.shelf.Tests.{cond-both, cases-bool}
+use Rattle.std.proofs.shelf.Tests.{cond-both}
 use Rattle.sources.specs.Meaning.{Meaning, rowOf}
-use Rattle.refusals.specs.declared.Refusal.{Refusal}
 use Rattle.auction.specs.declared.standing.Best.{Best}
 use Rattle.auction.specs.declared.standing.Bid.{Bid}
 use Rattle.auction.specs.declared.standing.Award.{Award}
@@ -24,7 +22,7 @@ use Rattle.auction.specs.declared.standing.Standing.{Standing}
 use Rattle.auction.specs.declared.standing.Standing.the-variants.{Waiting, Bidding, Served, Out}
 use Rattle.auction.specs.declared.standing.Verdict.{Verdict}
 use Rattle.auction.specs.declared.standing.Verdict.the-variants.{Out as GoesOut, Stale, Awarded}
-use Rattle.auction.specs.Tally.{Tally, holderAt, standingAt}
+use Rattle.auction.specs.Tally.{holderAt, standingAt}
 use Rattle.auction.specs.Bids.{offer, judgedBest, judged, bestWorth}
 use Rattle.auction.specs.Consistent.{Consistent, BidSound, StandingSound}
 use Rattle.auction.specs.Rules.{bidBy, once, taken, bids, called, freed, countedOut, countedStale, countedAward, carriedOut, verdictIn, verdictFrom, ended, settleAnswer, settleTally}
@@ -35,7 +33,7 @@ use Rattle.hall.specs.Kept.{Kept, tallyHeld}
 use Rattle.hall.specs.InBooks.{isOpen, tallyIn, tallyOf}
 use Rattle.hall.specs.Steps.{Noted}
 use Rattle.hall.proofs.Keeps.{kept-out, kept-by}
-use Rattle.hall.proofs.Tables.{same-tally, take-set-any, take-freed, open-tally, shut-tally, is-open, open-parts, consistent-in, few-places, standing-in, stands-in}
+use Rattle.hall.proofs.Tables.{has-tally, same-tally, take-set-any, take-freed, open-tally, is-open, open-parts, consistent-in, few-places, standing-in, stands-in}
 use Rattle.hall.proofs.Calling.{bid-open, bid-in, bid-known, bid-given}
 
 -- ---- the verdict
@@ -133,18 +131,6 @@ module _ (b : Books) (i : ℕ) (x : Bid) (v : Verdict) (known : i < b .carriers)
         (award-in ss w f q) (consistent-after (Awarded a) e)
 
 -- ---- settle, whole
-
-some-in : {A : Type 0} {a b : A} → Some a ≡ Some b → a ≡ b
-some-in e = cc
-
--- Books whose tally is there are open, and hold it.
-has-tally : (m : Meaning) (b : Books) (t : Tally) → tallyOf m b ≡ Some t → (isOpen m b ≡ true) × (tallyIn b ≡ t)
-has-tally m b t e = ⊎-elim (λ o. (o, some-in (sym (open-tally m b o) ∙ e)))
-    (λ o. let q : None ≡ Some t = sym (shut-tally m b o) ∙ e in let z : _≡_ {A = ℕ} 0 1 = cc in absurd (omega arith)) (cases-bool (isOpen m b))
-
-pub refused-verdict : (m : Meaning) (i : ℕ) (e : Refusal) (o : Option Tally) → Err e ≡ bidBy m i Settle o → Err e ≡ settleAnswer i m o
-refused-verdict m i e None h = cc
-refused-verdict m i e (Some t) h = ap (verdictFrom t) h
 
 module _ (m : Meaning) (i : ℕ) (x : Bid) (old new : Books) (answer : Ok x ≡ bidBy m i Settle (tallyOf m old)) (tallied : tallyOf m new ≡ once (called m i Settle) (tallyOf m old)) where
   stood : standingAt (tallyIn old) i ≡ Bidding x

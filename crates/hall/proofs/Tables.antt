@@ -3,7 +3,7 @@ use mathlib.Core.Path.{_≡_, refl, sym, ap, subst, _∙_}
 use mathlib.Core.List.{List, [], _∷_}
 use mathlib.Core.Bool.{true, false, _&&_}
 use mathlib.Core.HLevel.{isProp→PathP}
-use mathlib.Core.Logic.{∥∥₁-prop}
+use mathlib.Core.Logic.{∥∥₁-prop, ⊎-elim}
 use Prim.Native.Nat.{ℕ, zero, suc, _^_, _<_, _≤_}
 use native.Mathlib.Omega.{arith}
 use lib.Dec.{eqb}
@@ -12,7 +12,7 @@ use Rattle.std.specs.declared.option.Option.{Option}
 use Rattle.std.specs.declared.option.Option.the-variants.{Some, None}
 use Rattle.std.specs.declared.result.Result.the-variants.{Ok}
 use Rattle.std.proofs.shelf.Lists.{take-replicate, getD-take, getD-default}
-use Rattle.std.proofs.shelf.Tests.{and-from, and-parts, eq-eqb, eqb-true, cond-true, cond-false}
+use Rattle.std.proofs.shelf.Tests.{cases-bool, and-from, and-parts, eq-eqb, eqb-true, cond-true, cond-false}
 use Rattle.sources.specs.Meaning.{Meaning}
 use Rattle.auction.specs.declared.standing.Counts.{Counts}
 use Rattle.auction.specs.declared.standing.Standing.{Standing}
@@ -20,6 +20,7 @@ use Rattle.auction.specs.declared.standing.Standing.the-variants.{Waiting, Out}
 use Rattle.auction.specs.Tally.{Tally, standingAt}
 use Rattle.auction.specs.Rules.{startAnswer, startTally, startTallyBy, noCounts, opened, freed, stands}
 use Rattle.auction.specs.Consistent.{Consistent, Limits}
+use Rattle.auction.proofs.Matching.{some-same}
 use Rattle.auction.proofs.Keeping.{limits-from-ok, opened-consistent}
 use Rattle.hall.specs.declared.books.Books.{Books}
 use Rattle.hall.specs.Kept.{Kept, tallyHeld}
@@ -65,6 +66,11 @@ open-tally m b e = cond-true (isOpen m b) (Some (tallyIn b)) None e
 pub shut-tally : (m : Meaning) (b : Books) → isOpen m b ≡ false → tallyOf m b ≡ None
 unfolding tallyOf
 shut-tally m b e = cond-false (isOpen m b) (Some (tallyIn b)) None e
+
+-- Books whose tally is there are open, and hold it.
+pub has-tally : (m : Meaning) (b : Books) (t : Tally) → tallyOf m b ≡ Some t → (isOpen m b ≡ true) × (tallyIn b ≡ t)
+has-tally m b t e = ⊎-elim (λ o. (o, some-same (sym (open-tally m b o) ∙ e)))
+    (λ o. let q : None ≡ Some t = sym (shut-tally m b o) ∙ e in let z : _≡_ {A = ℕ} 0 1 = cc in absurd (omega arith)) (cases-bool (isOpen m b))
 
 pub is-open : (m : Meaning) (b : Books) → b .started ≡ true → b .carriers ≡ m .carriers → b .jobs ≡ m .jobs → b .ceiling ≡ m .ceiling → isOpen m b ≡ true
 is-open m b s c j l =

@@ -1,8 +1,10 @@
 // The hall and its calls.
 ghost use mathlib.Core.Path.{_≡_};
 ghost use Rattle.std.specs.declared.option.Option.the-variants.{None};
-ghost use Rattle.hall.specs.InBooks.{tallyOf};
+ghost use Rattle.hall.specs.InBooks.{tallyIn, tallyOf};
 ghost use Rattle.hall.specs.Ruled.{Ruled};
+ghost use Rattle.std.specs.Vec.{made};
+ghost use Rattle.auction.specs.Looks.{Looks};
 ghost use Rattle.auction.specs.Rules.{startAnswer, startTally, summonAnswer, summonTally, lookAnswer, lookTally, settleAnswer, settleTally};
 use crate::books::Books;
 use auction::standing::Verdict;
@@ -51,6 +53,7 @@ impl<S: Source> Hall<S> {
     // Refused, in this order: never started, carrier number too large, no open bid, row fully looked at.
     pub fn look(&mut self, carrier: usize) -> Result<(), Refusal>
         ensures ruled { λ r. ⌜ Ruled (lookAnswer carrier) (lookTally carrier) (meaning (now (self .entry) .source)) (now (self .entry) .books) (now (self .exit) .books) r ⌝ }
+        ensures looks { λ r. ⌜ made r (λ _. Looks (meaning (now (self .entry) .source)) carrier (tallyIn (now (self .entry) .books)) (tallyIn (now (self .exit) .books))) ⌝ }
         ensures kept { λ _. ⌜ now (self .exit) .source ≡ now (self .entry) .source ⌝ }
     {
         self.books.look(&self.source, carrier)

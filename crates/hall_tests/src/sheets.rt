@@ -25,7 +25,7 @@ const TABLE: [Entry; 9] = [
 const STARTS: [usize; 4] = [0, 3, 6, 9];
 
 // A hall over a sheet, never started. A sheet that cannot be filled stays empty, and a hall over it cannot be started.
-pub fn hall_of<'a>(
+pub(crate) fn hall_of<'a>(
     carriers: usize,
     jobs: usize,
     starts: &'a [usize],
@@ -42,18 +42,18 @@ pub fn hall_of<'a>(
 }
 
 // Three carriers and three jobs.
-pub fn table_hall() -> Hall<Sheet<'static>> {
+pub(crate) fn table_hall() -> Hall<Sheet<'static>> {
     hall_of(3, 3, &STARTS, &TABLE)
 }
 
 // A bid from its summons to its verdict, with one look.
-pub fn bid<S: Source>(hall: &mut Hall<S>, carrier: usize) -> Result<Verdict, Refusal> {
+pub(crate) fn bid<S: Source>(hall: &mut Hall<S>, carrier: usize) -> Result<Verdict, Refusal> {
     hall.summon(carrier)?;
     hall.look(carrier)?;
     hall.settle(carrier)
 }
 
-pub fn won(job: usize, price: u64, displaced: Option<usize>) -> Result<Verdict, Refusal> {
+pub(crate) fn won(job: usize, price: u64, displaced: Option<usize>) -> Result<Verdict, Refusal> {
     Ok(Verdict::Awarded(Award {
         job,
         price,

@@ -1,6 +1,5 @@
 -- What is printed of a sheet file.
 use mathlib.Core.List.{List, [], _∷_, _++_}
-use mathlib.Core.Path.{_≡_}
 use Prim.Native.Nat.{ℕ, _+_}
 use lib.Chars.{codes}
 use Rattle.std.specs.shelf.Lists.{joined}

@@ -1,7 +1,7 @@
 // What `inspect` prints of a sheet file.
 ghost use Prim.Native.Nat.{_≤_};
 ghost use Rattle.inspection.specs.Inspected.{Tells, inspected};
-ghost use Rattle.inspection.specs.Listing.{refusedLine, rowLine, sheetText};
+ghost use Rattle.inspection.specs.Listing.{refusedLine, rowLine};
 ghost use Rattle.sheetfile.specs.Reading.{loaded};
 ghost use Rattle.sources.specs.Meaning.{rowOf};
 ghost use Rattle.std.specs.Of.String.{string-bytes};
@@ -154,33 +154,8 @@ mod tests {
     use refusals::FaultPartialEq;
     use std::test::*;
 
-    const SHEET: [u8; 25] = [
-        3,
-        3,
-        14,
-        3,
-        0,
-        5,
-        1,
-        10,
-        2,
-        1,
-        3,
-        0,
-        4,
-        1,
-        11,
-        2,
-        3,
-        3,
-        0,
-        5,
-        1,
-        14,
-        2,
-        8,
-        9,
-    ];
+    const SHEET: [u8; 25] =
+        *b"\x03\x03\x0e\x03\x00\x05\x01\x0a\x02\x01\x03\x00\x04\x01\x0b\x02\x03\x03\x00\x05\x01\x0e\x02\x08\x09";
 
     #[test]
     fn lists_a_sheet(rt: LibcRuntime) -> Result<(), Fail> {

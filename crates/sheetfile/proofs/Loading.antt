@@ -16,7 +16,7 @@ use Rattle.sources.specs.declared.form.Entry.{Entry}
 use Rattle.sources.specs.declared.form.Heading.{Heading}
 use Rattle.sheetfile.specs.Layout.{Row, entriesIn, meaningOf}
 use Rattle.sheetfile.specs.Reading.{closedAt, headingFrom, headingIn, loaded, rowIn, rowsFrom}
-use Rattle.sheetfile.specs.States.{afterRow, closing, entriesWith, headedBy, nextRow, startsWith}
+use Rattle.sheetfile.specs.States.{afterRow, closing, entriesAfterRow, headedBy, nextRow, startsAfterRow}
 use Rattle.sheetfile.specs.Steps.{andThen, prefixed, roomFor, updated}
 use Rattle.sheetfile.specs.Tables.{headingAnswer, over}
 use Rattle.sheetfile.specs.declared.loader.Bare.{Bare}
@@ -45,7 +45,7 @@ rows-first bs h room (suc n) used at left end is some =
     )
 
 -- What is left of a load that succeeds, after i rows of n, with the loader l.
-pub record Going (bs starts₀ : List ℕ) (entries₀ : List Entry) (n i : ℕ) (l : Headed) (starts : List ℕ) (entries : List Entry) : Type 0 where
+pub record Underway (bs starts₀ : List ℕ) (entries₀ : List Entry) (n i : ℕ) (l : Headed) (starts : List ℕ) (entries : List Entry) : Type 0 where
   pub all : List Row
   pub left : List Row
   pub end : ℕ
@@ -60,7 +60,7 @@ pub record Going (bs starts₀ : List ℕ) (entries₀ : List Entry) (n i : ℕ)
   pub entries-left : over entries (l .used) (entriesOf left) ≡ over entries₀ 0 (entriesOf all)
 
 module _ (bs starts₀ : List ℕ) (entries₀ : List Entry) (n i : ℕ) (l : Headed) (starts : List ℕ) (entries : List Entry)
-    (g : Going bs starts₀ entries₀ n i l starts entries)
+    (g : Underway bs starts₀ entries₀ n i l starts entries)
     (ls : length starts ≡ length starts₀) (le : length entries ≡ length entries₀) where
   module _ (inside : i < n) where
     some : 0 < l .heading .carriers - i
@@ -79,8 +79,8 @@ module _ (bs starts₀ : List ℕ) (entries₀ : List Entry) (n i : ℕ) (l : He
         (ap (λ b. rowIn b (l .heading) (length entries) (l .used) (l .at)) (g .same) ∙ ap (λ m. rowIn bs (l .heading) m (l .used) (l .at)) le ∙ first .4)
         (room-there (faultOf TooShort) (l .rows + 2) (length starts) (first .0, first .1) (omega arith))
 
-    going-more : Going bs starts₀ entries₀ n (i + 1) (afterRow l (first .0, first .1)) (startsWith l starts (first .0, first .1)) (entriesWith l entries (first .0, first .1))
-    going-more =
+    underway-more : Underway bs starts₀ entries₀ n (i + 1) (afterRow l (first .0, first .1)) (startsAfterRow l starts (first .0, first .1)) (entriesAfterRow l entries (first .0, first .1))
+    underway-more =
         let c = g .count in let e = g .last in let o = g .long in
         let is = first .3 in
         let used = l .used in
@@ -105,19 +105,19 @@ module _ (bs starts₀ : List ℕ) (entries₀ : List Entry) (n i : ℕ) (l : He
         }
 
     -- the same, by what a call that reads a row ensures
-    pub going-next : (l′ : Headed) (starts′ : List ℕ) (entries′ : List Entry)
+    pub underway-next : (l′ : Headed) (starts′ : List ℕ) (entries′ : List Entry)
         → l′ ≡ updated (nextRow l (length starts) (length entries)) l (afterRow l)
-        → starts′ ≡ updated (nextRow l (length starts) (length entries)) starts (startsWith l starts)
-        → entries′ ≡ updated (nextRow l (length starts) (length entries)) entries (entriesWith l entries)
-        → Going bs starts₀ entries₀ n (i + 1) l′ starts′ entries′
-    going-next l′ starts′ entries′ x s e =
+        → starts′ ≡ updated (nextRow l (length starts) (length entries)) starts (startsAfterRow l starts)
+        → entries′ ≡ updated (nextRow l (length starts) (length entries)) entries (entriesAfterRow l entries)
+        → Underway bs starts₀ entries₀ n (i + 1) l′ starts′ entries′
+    underway-next l′ starts′ entries′ x s e =
         let v = nextRow l (length starts) (length entries) in
         let x′ = updated-ok v (first .0, first .1) l (afterRow l) accepted ∙ sym x in
-        let s′ = updated-ok v (first .0, first .1) starts (startsWith l starts) accepted ∙ sym s in
-        let e′ = updated-ok v (first .0, first .1) entries (entriesWith l entries) accepted ∙ sym e in
-        subst (λ z. Going bs starts₀ entries₀ n (i + 1) z starts′ entries′) x′
-        (subst (λ z. Going bs starts₀ entries₀ n (i + 1) (afterRow l (first .0, first .1)) z entries′) s′
-        (subst (λ z. Going bs starts₀ entries₀ n (i + 1) (afterRow l (first .0, first .1)) (startsWith l starts (first .0, first .1)) z) e′ going-more))
+        let s′ = updated-ok v (first .0, first .1) starts (startsAfterRow l starts) accepted ∙ sym s in
+        let e′ = updated-ok v (first .0, first .1) entries (entriesAfterRow l entries) accepted ∙ sym e in
+        subst (λ z. Underway bs starts₀ entries₀ n (i + 1) z starts′ entries′) x′
+        (subst (λ z. Underway bs starts₀ entries₀ n (i + 1) (afterRow l (first .0, first .1)) z entries′) s′
+        (subst (λ z. Underway bs starts₀ entries₀ n (i + 1) (afterRow l (first .0, first .1)) (startsAfterRow l starts (first .0, first .1)) z) e′ underway-more))
 
   module _ (done : n ≤ i) where
     none : rowsFrom bs (l .heading) (length entries₀) (l .heading .carriers - i) (l .used) (l .at) ≡ Ok ([], l .at)
@@ -154,8 +154,8 @@ module _ (bs starts : List ℕ) (entries : List Entry) (h : Heading) (b : Bare) 
     pub start-put : starts₀ ≡ set starts 0 0
     start-put = put ∙ sym (updated-ok (headingIn (b .bytes .now) (length starts)) (headingOf (file .0), parts .0) starts (λ _. set starts 0 0) heading-there)
 
-    pub going-first : (l : Headed) → Ok l ≡ headedBy b (headingIn (b .bytes .now) (length starts)) → Going bs starts₀ entries (h .carriers) 0 l starts₀ entries
-    going-first l is =
+    pub underway-first : (l : Headed) → Ok l ≡ headedBy b (headingIn (b .bytes .now) (length starts)) → Underway bs starts₀ entries (h .carriers) 0 l starts₀ entries
+    underway-first l is =
         let k = headed-ok b (headingIn (b .bytes .now) (length starts)) l is in
         let same : k .0 ≡ (headingOf (file .0), parts .0) = ok-same (k .0) (headingOf (file .0), parts .0) (sym (k .1) ∙ heading-there) in
         let there : l ≡ record { bytes = b .bytes; heading = headingOf (file .0); at = parts .0; rows = 0; used = 0 } = k .2 ∙ ap (λ (x : Heading × ℕ). record { bytes = b .bytes; heading = x .0; at = x .1; rows = 0; used = 0 }) same in
@@ -165,7 +165,7 @@ module _ (bs starts : List ℕ) (entries : List Entry) (h : Heading) (b : Bare) 
         let len : length starts₀ ≡ length starts = ap length start-put ∙ length-set starts 0 0 in
         let zero-less : file .0 .carriers - 0 ≡ file .0 .carriers = omega arith in
         let zero-more : 0 + entriesIn (file .0 .rows) ≡ entriesIn (file .0 .rows) = omega arith in
-        subst (λ (x : Headed). Going bs starts₀ entries (h .carriers) 0 x starts₀ entries) (sym there)
+        subst (λ (x : Headed). Underway bs starts₀ entries (h .carriers) 0 x starts₀ entries) (sym there)
         record {
           all = file .0 .rows;
           left = file .0 .rows;

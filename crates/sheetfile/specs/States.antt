@@ -43,11 +43,11 @@ abbrev pub afterRow : Headed → Row × ℕ → Headed
 afterRow l r = record { bytes = l .bytes; heading = l .heading; at = r .1; rows = l .rows + 1; used = l .used + length (r .0) }
 
 -- The tables after a row: the place where it ends is the next start, and its entries follow those before it.
-abbrev pub startsWith : Headed → List ℕ → Row × ℕ → List ℕ
-startsWith l starts r = set starts (l .rows + 1) (l .used + length (r .0))
+abbrev pub startsAfterRow : Headed → List ℕ → Row × ℕ → List ℕ
+startsAfterRow l starts r = set starts (l .rows + 1) (l .used + length (r .0))
 
-abbrev pub entriesWith : Headed → List Entry → Row × ℕ → List Entry
-entriesWith l entries r = over entries (l .used) (map entryOf (r .0))
+abbrev pub entriesAfterRow : Headed → List Entry → Row × ℕ → List Entry
+entriesAfterRow l entries r = over entries (l .used) (map entryOf (r .0))
 
 -- ---- A headed loader is closed.
 

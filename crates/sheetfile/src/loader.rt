@@ -2,7 +2,7 @@
 ghost use mathlib.Core.Path.{_≡_};
 ghost use lib.ListN.{length, set};
 ghost use Rattle.sheetfile.specs.Reading.{headingIn};
-ghost use Rattle.sheetfile.specs.States.{afterRow, closedBy, closing, entriesWith, headedBy, nextRow, startsWith};
+ghost use Rattle.sheetfile.specs.States.{afterRow, closedBy, closing, entriesAfterRow, headedBy, nextRow, startsAfterRow};
 ghost use Rattle.sheetfile.specs.Steps.{updated, withoutValue};
 ghost use Rattle.sheetfile.specs.Tables.{rowCount};
 use crate::parts::heading_in;
@@ -95,8 +95,8 @@ impl<'a> Headed<'a> {
     pub fn read_row(&mut self, starts: &mut [usize], entries: &mut [Entry]) -> Result<(), Fault>
         ensures answer { λ r. ⌜ r ≡ withoutValue (nextRow (now (self .entry)) (length (now (starts .entry))) (length (now (entries .entry)))) ⌝ }
         ensures loader { λ _. ⌜ now (self .exit) ≡ updated (nextRow (now (self .entry)) (length (now (starts .entry))) (length (now (entries .entry)))) (now (self .entry)) (afterRow (now (self .entry))) ⌝ }
-        ensures starts { λ _. ⌜ now (starts .exit) ≡ updated (nextRow (now (self .entry)) (length (now (starts .entry))) (length (now (entries .entry)))) (now (starts .entry)) (startsWith (now (self .entry)) (now (starts .entry))) ⌝ }
-        ensures entries { λ _. ⌜ now (entries .exit) ≡ updated (nextRow (now (self .entry)) (length (now (starts .entry))) (length (now (entries .entry)))) (now (entries .entry)) (entriesWith (now (self .entry)) (now (entries .entry))) ⌝ }
+        ensures starts { λ _. ⌜ now (starts .exit) ≡ updated (nextRow (now (self .entry)) (length (now (starts .entry))) (length (now (entries .entry)))) (now (starts .entry)) (startsAfterRow (now (self .entry)) (now (starts .entry))) ⌝ }
+        ensures entries { λ _. ⌜ now (entries .exit) ≡ updated (nextRow (now (self .entry)) (length (now (starts .entry))) (length (now (entries .entry)))) (now (entries .entry)) (entriesAfterRow (now (self .entry)) (now (entries .entry))) ⌝ }
     {
         match self.next_row(starts.len(), entries.len()) {
             Err(fault) => Err(fault),

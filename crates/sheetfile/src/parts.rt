@@ -1,7 +1,5 @@
 // The parts of a file, each read from a place on.
 ghost use mathlib.Core.Path.{_≡_};
-ghost use Prim.Native.Nat.{_≤_};
-ghost use lib.ListN.{length};
 ghost use Rattle.sheetfile.specs.Reading.{countFrom, headingFrom, jobFrom, worthFrom, entryFrom, headingIn, rowFrom, rowIn, closedAt};
 ghost use Rattle.sheetfile.specs.Tables.{HoldsRow, rowCount};
 use numbers::read_number;

@@ -4,10 +4,12 @@ ghost use mathlib.Core.Bool.{false};
 ghost use Prim.Native.Nat.{ℕ, _^_, _<_, _≤_};
 ghost use lib.ListN.{length, getD, take};
 ghost use Rattle.std.specs.Results.{isOk};
+ghost use Rattle.std.specs.Vec.{made};
 ghost use Rattle.std.specs.declared.option.Option.the-variants.{None, Some};
 ghost use Rattle.sources.specs.Meaning.{Meaning, rowOf};
 ghost use Rattle.auction.specs.Bids.{lookedOn, judged, bestWorth};
 ghost use Rattle.auction.specs.Consistent.{BidSound};
+ghost use Rattle.auction.specs.Looks.{Looks};
 ghost use Rattle.auction.specs.Rules.{between, inLimits, startAnswer, startTally, bidAfter, bidBy, once, called, summonAnswer, summonTally, lookAnswer, lookTally, freed, verdictIn, carriedOut, settleAnswer, settleTally};
 ghost use Rattle.auction.specs.Tally.{standingAt};
 ghost use Rattle.hall.specs.InBooks.{tallyIn, tallyOf, isOpen};
@@ -268,7 +270,8 @@ impl Books {
     }
 
     pub(crate) fn look<S: Source>(&mut self, source: &S, carrier: usize) -> Result<(), Refusal>
-        ensures { λ r. ⌜ Ruled (lookAnswer carrier) (lookTally carrier) (meaning (now (source .entry))) (now (self .entry)) (now (self .exit)) r ⌝ }
+        ensures ruled { λ r. ⌜ Ruled (lookAnswer carrier) (lookTally carrier) (meaning (now (source .entry))) (now (self .entry)) (now (self .exit)) r ⌝ }
+        ensures looks { λ r. ⌜ made r (λ _. Looks (meaning (now (source .entry))) carrier (tallyIn (now (self .entry))) (tallyIn (now (self .exit)))) ⌝ }
     {
         self.call_on(source, carrier, Act::Look)?;
         Ok(())

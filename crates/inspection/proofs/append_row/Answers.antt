@@ -1,9 +1,9 @@
 use mathlib.Core.List.{_++_}
-use mathlib.Core.Path.{_≡_, sym, ap, _∙_}
+use mathlib.Core.Path.{sym, ap, _∙_}
 use Prim.Native.Nat.{ℕ}
 use native.Mathlib.Omega.{arith}
 use lib.Chars.{codes}
-use lib.ListN.{length, take}
+use lib.ListN.{take}
 use Rattle.std.proofs.shelf.Lists.{append-assoc, append-nil, take-all}
 use Rattle.std.specs.Of.String.{string-bytes}
 use Rattle.std.specs.Written.{decimal}

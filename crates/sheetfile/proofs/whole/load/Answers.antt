@@ -14,7 +14,7 @@ use Rattle.sheetfile.specs.States.{closing}
 use Rattle.sheetfile.specs.Steps.{withoutValue}
 use Rattle.sheetfile.specs.Tables.{headingAnswer, over}
 use Rattle.sheetfile.proofs.Filling.{loads-exactly}
-use Rattle.sheetfile.proofs.Loading.{accepted, closes-now, entries-done, going-first, going-next, heading-there, start-put, starts-done}
+use Rattle.sheetfile.proofs.Loading.{accepted, closes-now, entries-done, underway-first, underway-next, heading-there, start-put, starts-done}
 use Rattle.sheetfile.proofs.Overs.{over-set}
 use Rattle.sheetfile.proofs.Steps.{err-not-ok}
 use Rattle.sheetfile.proofs.Tables.{closed-err, closed-ok, headed-err, heading-err, updated-err, updated-ok}
@@ -27,7 +27,7 @@ returns-in-Err c =
 
 pub loop-i-holds : need.loop-i-holds
 loop-i-holds c =
-    going-first (c .args .bytes .now) (c .args .starts .now) (c .args .entries .now) (c .in-Continue-heading .heading) (c .new .result) (c .new .ensures) (c .in-Continue-heading .ensures tt) (c .read-heading .last .starts)
+    underway-first (c .args .bytes .now) (c .args .starts .now) (c .args .entries .now) (c .in-Continue-heading .heading) (c .new .result) (c .new .ensures) (c .in-Continue-heading .ensures tt) (c .read-heading .last .starts)
     (c .in-Ok .ensures tt .starts) (c .in-Ok .headed) (c .in-Ok .ensures tt .answer)
 
 pub returns-in-Break-read-row : need.returns-in-Break-read-row
@@ -40,7 +40,7 @@ pub loop-i-again : need.loop-i-again
 loop-i-again c =
     let l = c .loop-i in
     let r = c .read-row in
-    going-next (c .args .bytes .now) (c .read-heading .last .starts) (c .args .entries .now) (c .in-Continue-heading .heading .carriers) (l .-i) (l .loader) (l .starts) (l .entries) (l .inv) (l .kept .starts) (l .kept .entries) (c .loop-i-test .taken)
+    underway-next (c .args .bytes .now) (c .read-heading .last .starts) (c .args .entries .now) (c .in-Continue-heading .heading .carriers) (l .-i) (l .loader) (l .starts) (l .entries) (l .inv) (l .kept .starts) (l .kept .entries) (c .loop-i-test .taken)
     (r .last .self) (r .last .starts) (r .last .entries) (r .ensures .loader) (r .ensures .starts) (r .ensures .entries)
 
 pub returns-in-Ok-close : need.returns-in-Ok-close

@@ -5,7 +5,7 @@ use native.Mathlib.Omega.{arith}
 use lib.ListN.{drop, length, set}
 use Rattle.std.proofs.shelf.Lists.{length-drop, length-map, length-take}
 use Rattle.sources.specs.Tables.{entryOf}
-use Rattle.sheetfile.specs.States.{afterRow, entriesWith, nextRow, startsWith}
+use Rattle.sheetfile.specs.States.{afterRow, entriesAfterRow, nextRow, startsAfterRow}
 use Rattle.sheetfile.proofs.Tables.{answer-err, answer-ok, count-err, count-ok, holds-whole, put-over, row-accepted, updated-err, updated-ok}
 use Rattle.sheetfile.proofs.loader.Headed.read_row.Needs as need
 
@@ -28,7 +28,7 @@ returns-in-Ok c =
       loader = ap (λ n. record { bytes = c .args .self .now .bytes; heading = c .args .self .now .heading; at = c .in-Ok .next; rows = c .args .self .now .rows + 1; used = c .args .self .now .used + n }) (sym (s .2))
           ∙ updated-ok v (s .0, c .in-Ok .next) (c .args .self .now) (afterRow (c .args .self .now)) (s .1);
       starts = ap (λ n. set (c .args .starts .now) (c .args .self .now .rows + 1) (c .args .self .now .used + n)) (sym (s .2))
-          ∙ updated-ok v (s .0, c .in-Ok .next) (c .args .starts .now) (startsWith (c .args .self .now) (c .args .starts .now)) (s .1);
+          ∙ updated-ok v (s .0, c .in-Ok .next) (c .args .starts .now) (startsAfterRow (c .args .self .now) (c .args .starts .now)) (s .1);
       entries = put-over (c .args .entries .now) (c .row-at .last .table) (map entryOf (s .0)) (c .args .self .now .used) (c .args .self .now .used + c .in-Ok .count) t (omega (arith, s .2, length-map (s .0) entryOf))
-          ∙ updated-ok v (s .0, c .in-Ok .next) (c .args .entries .now) (entriesWith (c .args .self .now) (c .args .entries .now)) (s .1);
+          ∙ updated-ok v (s .0, c .in-Ok .next) (c .args .entries .now) (entriesAfterRow (c .args .self .now) (c .args .entries .now)) (s .1);
     }

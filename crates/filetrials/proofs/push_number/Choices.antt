@@ -1,4 +1,4 @@
-use Rattle.filetrials.proofs.files.push_number.Given as given
+use Rattle.filetrials.proofs.push_number.Given as given
 
 abbrev pub μ-loop-rest : given.MeasureT-loop-rest
 μ-loop-rest l = l .rest
