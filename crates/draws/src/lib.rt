@@ -1,4 +1,6 @@
 // Numbers that look random, the same ones for each seed: Marsaglia's xorshift of 64 bits. For trials, not for secrets.
+#![tactic(auto)]
+
 ghost use Rattle.std.specs.Prelude.{◌≡◌, ◌<◌, max};
 
 #[derive(Drop)]

@@ -1,5 +1,7 @@
 // Whole, damaged and random sheet files through the loader, the same ones in each run: every accepted one is written
 // again and compared, and the three states are compared with the load of a whole file. Prints what became of them.
+#![tactic(auto)]
+
 use refusals::{Fault, Refusal};
 use sheetfile::loader::Bare;
 use sheetfile::rewriting::rewrite;

@@ -1,3 +1,5 @@
+#![tactic(auto)]
+
 use anyhow::anyhow;
 use inspection::{MOST_BYTES, inspect_sheet};
 use std::io::Read;

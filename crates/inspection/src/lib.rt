@@ -1,4 +1,6 @@
 // What `inspect` prints of a sheet file.
+#![tactic(auto)]
+
 ghost use Rattle.std.specs.Prelude.{◌≡◌, ◌≤◌, ◌++◌, length, IfSome, IfOk, Some, Ok, string_bytes, OnOk};
 ghost use Rattle.inspection.specs.Inspected.{Tells, inspected};
 ghost use Rattle.inspection.specs.Listing.{refused_line, row_line};

@@ -1,3 +1,5 @@
+#![tactic(auto)]
+
 ghost use Rattle.std.specs.Prelude.{◌≡◌, ℕ, ◌+◌, ◌^◌, ◌<◌, ◌≤◌, ◌&&◌, List, length, is_ok, IfOk, if◌then◌else◌, Ok, ◌==◌, nat_lt};
 ghost use Rattle.numbers.specs.Groups.{encoded};
 ghost use Rattle.numbers.specs.Laws.{ReadsExactly, Sized};

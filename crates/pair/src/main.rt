@@ -1,3 +1,5 @@
+#![tactic(auto)]
+
 use anyhow::anyhow;
 use pairing::{MOST_TEXT, Printed, print_pairs};
 use sheetfile::whole::MOST_BYTES;

@@ -1,4 +1,6 @@
 // Pairs the carriers and jobs of a sheet file.
+#![tactic(auto)]
+
 ghost use Rattle.std.specs.Prelude.{◌≡◌, ◌^◌, ◌≤◌, length};
 ghost use Rattle.pairing.specs.Listing.{refused_line};
 ghost use Rattle.pairing.specs.Pairs.{AtMost, FilePairsWell, Holds, PairsWell, auctioned, fitted, listed, listed_within, listing_after, printed, put_into, refusal_in, signed_size, sized};

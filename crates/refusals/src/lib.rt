@@ -1,4 +1,7 @@
-ghost use Rattle.std.specs.Prelude.{◌≡◌, ℕ, List, Some, Decides};
+#![tactic(auto)]
+
+ghost use Rattle.std.specs.Prelude.{◌≡◌, ◌↔◌, IsTrue, Some, nat_eq};
+ghost use Rattle.std.specs.Ordering.{on};
 ghost use Rattle.refusals.specs.Numbering.{number_of, Named, Numbered};
 ghost use Rattle.refusals.specs.Reasons.{reason_of, refusal_text};
 ghost use Rattle.refusals.specs.Faults.{fault_at, fault_of, fault_text};
@@ -134,11 +137,14 @@ impl Refusal {
 
 // Two refusals are equal exactly if their numbers are.
 impl PartialEq for Refusal {
-    ghost equals = { λ x y t. Decides t (x ≡ y) };
+    ghost eq = { on number_of nat_eq };
 
     ghost laws = { Keys.partial_equiv_from_equiv (Prim.search (comparing, rules)) };
 
-    fn eq(&self, other: &Refusal) -> bool {
+    fn eq(&self, other: &Refusal) -> bool
+        ensures numbers { result ≡ nat_eq (number_of self.now) (number_of other.now) }
+        ensures same { IsTrue result ↔ (self.now ≡ other.now) }
+    {
         self.number() == other.number()
     }
 }

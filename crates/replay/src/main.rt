@@ -1,3 +1,5 @@
+#![tactic(auto)]
+
 use anyhow::anyhow;
 use replaying::log::MOST_LOG_BYTES;
 use replaying::{Outcome, replay_log};

@@ -1,4 +1,6 @@
 // Replays a log of calls on a hall over a sheet file.
+#![tactic(auto)]
+
 ghost use Rattle.replaying.specs.Logs.{asked_in, held_in};
 ghost use Rattle.replaying.specs.Outcomes.{Tells, TellsTrouble};
 ghost use Rattle.replaying.specs.ReadBack.{ReadsBack};

@@ -1,4 +1,6 @@
 // First in, first out, over lent places; one text for every copied element.
+#![tactic(auto)]
+
 ghost use Rattle.std.specs.Prelude.{◌≤◌, length};
 
 mod calls;

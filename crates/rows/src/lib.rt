@@ -1,5 +1,7 @@
 // What the row of a carrier comes to, whatever the source: the worth of a job, the total, the best entry.
 // Proved from what every source promises alone.
+#![tactic(auto)]
+
 ghost use Rattle.std.specs.Prelude.{◌≡◌};
 ghost use Rattle.sources.specs.Meaning.{row_of, worth_of};
 ghost use Rattle.sources.specs.Layers.{floored, floor_of, scaled, times_of, FloorThenTimes};

@@ -1,4 +1,6 @@
 // The sheet file: read into lent tables, and written from any source.
+#![tactic(auto)]
+
 pub mod loader;
 mod parts;
 pub mod rewriting;

@@ -1,4 +1,6 @@
 // Text that is made piece by piece.
+#![tactic(auto)]
+
 ghost use Rattle.std.specs.Prelude.{◌≡◌, ◌++◌, IfSome, string_bytes, OnOk};
 
 use std::alloc::AllocError;

@@ -1,6 +1,8 @@
 // Random auctions on small sheets: random lists of calls, on a sheet as it is and under a times layer. After each call
 // every law is checked by the hall's own answers, beside a search through all pairings; and the whole list, replayed, gives
 // the same answers.
+#![tactic(auto)]
+
 use anyhow::anyhow;
 use auction::call::{Answer, Call};
 use auction::standing::{Counts, Standing};

@@ -1,4 +1,6 @@
 // Worked cases of the rules, each performed by calls whose contracts say what comes of it.
+#![tactic(auto)]
+
 ghost use Rattle.worked.specs.Numbers.{number_cases, WorkedNumbers};
 ghost use Rattle.worked.specs.Sheets.{WorkedSheet, sheet_cases};
 ghost use Rattle.std.specs.Prelude.{◌≡◌};

@@ -25,7 +25,7 @@ returns-then-i-bytes c =
     let bytes = c.args.bytes.now in
     let e = at_end bytes c.loop-k.i c.loop-k.k (omega arith) (omega arith) in
     let v = refused bytes c.args.at NumberCut c.at.result c.at.ensures (c.loop-k.invariant.3 ∙ ap (after c.loop-k.k c.loop-k.value) e) in
-    record { value = v; exact = exactly bytes c.args.at (Err c.at.result) c.type-inv.bytes v }
+    record { value = v; exact = exactly bytes c.args.at (Err c.at.result) c.ok.bytes v }
 
 pub returns-then-is-padded : goal.returns-then-is-padded
 returns-then-is-padded c =
@@ -55,11 +55,11 @@ returns-then-group-lt128 c =
     let left = drop (c.loop-k.i + 1) bytes in
     let next : length bytes - length left ≡ c.loop-k.i + 1 = omega (arith, length-drop (c.loop-k.i + 1) bytes, c.if-i-bytes.false) in
     let whole : decoded_in 6 (drop c.args.at bytes) ≡ Ok (c.loop-k.value + b * 128 ^ c.loop-k.k, left) =
-    c.loop-k.invariant.3 ∙ ap (after c.loop-k.k c.loop-k.value) e ∙ after_last c.loop-k.k c.loop-k.value b left (sym c.is-padded.ensures ∙ c.if-is-padded.false) in
+    c.loop-k.invariant.3 ∙ ap (after c.loop-k.k c.loop-k.value) e ∙ after_last c.loop-k.k c.loop-k.value b left (sym c.is_padded.ensures ∙ c.if-is_padded.false) in
     let v : Ok (c.loop-k.value + b * c.loop-k.scale, c.loop-k.i + 1) ≡ read_at bytes c.args.at =
     ap (λ s. Ok (c.loop-k.value + b * s, c.loop-k.i + 1)) c.loop-k.invariant.1
     ∙ ap (λ m. Ok (c.loop-k.value + b * 128 ^ c.loop-k.k, m)) (sym next) ∙ sym (ap (placed bytes c.args.at) whole) in
-    record { value = v; exact = exactly bytes c.args.at (Ok (c.loop-k.value + b * c.loop-k.scale, c.loop-k.i + 1)) c.type-inv.bytes v }
+    record { value = v; exact = exactly bytes c.args.at (Ok (c.loop-k.value + b * c.loop-k.scale, c.loop-k.i + 1)) c.ok.bytes v }
 
 -- the same of a group that another follows
 room-more : (b s k : ℕ) → b < 256 → s ≡ 128 ^ k → k ≤ 6 → (b - 128) * s ≤ 127 * 2 ^ 42
@@ -79,7 +79,7 @@ loop-k-preserved c =
     let b = get_or c.args.bytes.now c.loop-k.i 0 in
     let s = c.loop-k.scale in
     let is = c.loop-k.invariant.1 in
-    let byte : b < 256 = omega (arith, c.type-inv.bytes c.loop-k.i) in
+    let byte : b < 256 = omega (arith, c.ok.bytes c.loop-k.i) in
     let m : (b - 128) * s ≤ 127 * s = mul-le (b - 128) s 127 s (omega arith) (omega arith) in
     let e = at_more c.args.bytes.now c.loop-k.i c.loop-k.k (omega arith) c.if-i-bytes.false c.if-group-lt128.false in (
       omega arith,
@@ -95,4 +95,4 @@ returns c =
     let k : c.loop-k.k ≡ 6 = omega arith in
     let e : decoded_in (6 - c.loop-k.k) (drop c.loop-k.i bytes) ≡ Err NumberTooLong = rw k in
     let v = refused bytes c.args.at NumberTooLong c.at-2.result c.at-2.ensures (c.loop-k.invariant.3 ∙ ap (after c.loop-k.k c.loop-k.value) e) in
-    record { value = v; exact = exactly bytes c.args.at (Err c.at-2.result) c.type-inv.bytes v }
+    record { value = v; exact = exactly bytes c.args.at (Err c.at-2.result) c.ok.bytes v }

@@ -15,8 +15,8 @@ returns c =
     let room : at + length (encoded n) ≤ length out = omega arith in
     let fits : fits_at (length out) at n ≡ true = and_from _ _ (le-leb (length (encoded n)) 6 few) (le-leb (at + length (encoded n)) (length out) room) in
     record {
-      value = rw fits (ap Ok c.put-groups.ensures.next);
-      after = c.put-groups.ensures.written;
-      read_back = ap (λ bytes. read_at bytes at) c.put-groups.ensures.written ∙ written_reads out at n room few
-          ∙ ap (λ m. Ok (n, m)) (sym c.put-groups.ensures.next);
+      value = rw fits (ap Ok c.put_groups.ensures.next);
+      after = c.put_groups.ensures.written;
+      read_back = ap (λ bytes. read_at bytes at) c.put_groups.ensures.written ∙ written_reads out at n room few
+          ∙ ap (λ m. Ok (n, m)) (sym c.put_groups.ensures.next);
     }
