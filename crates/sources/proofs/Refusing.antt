@@ -11,7 +11,7 @@ use Rattle.sources.specs.Sheets.{never_falls, last_of, starts_good, has_start, j
 use Rattle.sources.specs.Laws.Starts.{never_falls_lem}
 use Rattle.sources.specs.Laws.SheetSound.{has_start_lem}
 
-pub contains_is : (starts : List ℕ) (k : ℕ) (r : Bool) → IsAnyAnswer (λ y t. Decides t (y ≡ k)) starts r → r ≡ has_start starts k
+pub contains_is : (starts : List ℕ) (k : ℕ) (r : Bool) → IsAnyAnswer (λ y t. eqb y k ≡ t) starts r → r ≡ has_start starts k
 contains_is starts k r h = same_from_decides r (has_start starts k) (contains_decides eqb Decides-eqb starts k r h) (has_start_lem starts k)
 
 pub or_taken : (r h b : Bool) → r ≡ h → r ≡ true → r ≡ (h || b)

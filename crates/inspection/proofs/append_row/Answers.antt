@@ -10,8 +10,8 @@ use Rattle.inspection.proofs.append_row.Goals as goal
 pub loop-job-init : goal.loop-job-init
 loop-job-init g c = (omega arith, sym (append-nil (string_bytes c.append.new.text)))
 
-pub overflow-add-count : goal.overflow-add-count
-overflow-add-count g c =
+pub overflow_add-count : goal.overflow_add-count
+overflow_add-count g c =
     let m = g.S.Source.meaning c.args.source.now in
     omega (arith, entry_inside m c.args.carrier c.loop-job.count (c.in-Some.job, c.in-Some.worth) c.in-Some.ensures, row_length m (g.S.Source.sound c.args.source.now) c.args.carrier, c.requires)
 
@@ -26,7 +26,7 @@ loop-job-preserved g c =
     let row = row_of m c.args.carrier in
     let e : ℕ × ℕ = (c.in-Some.job, c.in-Some.worth) in (
       omega (arith, entry_inside m c.args.carrier c.loop-job.count e c.in-Some.ensures),
-      c.in-ok-append-2.ensures ∙ ap (λ bs. bs ++ entry_text e) c.loop-job.invariant.1 ∙ append_assoc (string_bytes c.append.new.text) (flat_map entry_text (take c.loop-job.count row)) (entry_text e)
+      c.in_ok-append-2.ensures ∙ ap (λ bs. bs ++ entry_text e) c.loop-job.invariant.1 ∙ append_assoc (string_bytes c.append.new.text) (flat_map entry_text (take c.loop-job.count row)) (entry_text e)
           ∙ ap (λ bs. string_bytes c.append.new.text ++ bs) (entries_more m c.args.carrier c.loop-job.count e c.in-Some.ensures),
     )
 
@@ -39,6 +39,6 @@ returns g c =
     let text = string_bytes c.args.text.now in
     let front = decimal c.args.carrier ++ codes ":" in (
       omega (arith, past, c.loop-job.invariant.0),
-      c.in-ok-append-3.ensures ∙ ap (λ bs. bs ++ newline) (c.loop-job.invariant.1 ∙ ap (λ bs. bs ++ flat_map entry_text (take c.loop-job.count row)) c.in-ok-append.ensures ∙ ap (λ bs. (text ++ front) ++ bs) all)
+      c.in_ok-append-3.ensures ∙ ap (λ bs. bs ++ newline) (c.loop-job.invariant.1 ∙ ap (λ bs. bs ++ flat_map entry_text (take c.loop-job.count row)) c.in_ok-append.ensures ∙ ap (λ bs. (text ++ front) ++ bs) all)
           ∙ ap (λ bs. bs ++ newline) (append_assoc text front (flat_map entry_text row)) ∙ append_assoc text (front ++ flat_map entry_text row) newline ∙ ap (λ bs. text ++ bs) (append_assoc front (flat_map entry_text row) newline),
     )

@@ -6,8 +6,8 @@ pub loop-rest-preserved : goal.loop-rest-preserved
 loop-rest-preserved c = omega (arith, ap length (encoded_large c.loop-rest.rest c.loop-rest-test.true), c.loop-rest.invariant)
 
 -- a number of 64 bits has at most ten groups
-pub overflow-add-len : goal.overflow-add-len
-overflow-add-len c = omega (arith, encoded_few 9 c.args.n (omega arith), encoded_some c.loop-rest.rest, c.loop-rest.invariant)
+pub overflow_add-len : goal.overflow_add-len
+overflow_add-len c = omega (arith, encoded_few 9 c.args.n (omega arith), encoded_some c.loop-rest.rest, c.loop-rest.invariant)
 
 pub returns : goal.returns
 returns c = record {

@@ -25,27 +25,27 @@ returns-then-i-bytes c =
     let bytes = c.args.bytes.now in
     let e = at_end bytes c.loop-k.i c.loop-k.k (omega arith) (omega arith) in
     let v = refused bytes c.args.at NumberCut c.at.result c.at.ensures (c.loop-k.invariant.3 ∙ ap (after c.loop-k.k c.loop-k.value) e) in
-    record { value = v; exact = exactly bytes c.args.at (Err c.at.result) c.ok.bytes v }
+    record { value = v; exact = exactly bytes c.args.at (Err c.at.result) c.type_inv.bytes v }
 
-pub returns-then-is-padded : goal.returns-then-is-padded
-returns-then-is-padded c =
+pub returns-then-is_padded : goal.returns-then-is_padded
+returns-then-is_padded c =
     let bytes = c.args.bytes.now in
     let left = drop (c.loop-k.i + 1) bytes in
     let e = at_last bytes c.loop-k.i c.loop-k.k (omega arith) c.if-i-bytes.false c.if-group-lt128.true in
-    let v = refused bytes c.args.at NumberPadded c.at-then-is-padded.result c.at-then-is-padded.ensures
+    let v = refused bytes c.args.at NumberPadded c.at-then-is_padded.result c.at-then-is_padded.ensures
     (c.loop-k.invariant.3 ∙ ap (after c.loop-k.k c.loop-k.value) e
-    ∙ after_padded c.loop-k.k c.loop-k.value (get_or bytes c.loop-k.i 0) left (sym c.is-padded.ensures ∙ c.if-is-padded.true)) in
-    record { value = v; exact = exactly bytes c.args.at (Err c.at-then-is-padded.result) c.type-inv.bytes v }
+    ∙ after_padded c.loop-k.k c.loop-k.value (get_or bytes c.loop-k.i 0) left (sym c.is_padded.ensures ∙ c.if-is_padded.true)) in
+    record { value = v; exact = exactly bytes c.args.at (Err c.at-then-is_padded.result) c.type_inv.bytes v }
 
 -- a group times what it counts for
 room : (b s k : ℕ) → b < 128 → s ≡ 128 ^ k → k ≤ 6 → b * s ≤ 127 * 2 ^ 42
 room b s k small is few = mul-le b s 127 (2 ^ 42) (omega arith) (omega (arith, pow_le k few))
 
-pub overflow-mul-result : goal.overflow-mul-result
-overflow-mul-result c = omega (arith, room (get_or c.args.bytes.now c.loop-k.i 0) c.loop-k.scale c.loop-k.k c.if-group-lt128.true c.loop-k.invariant.1 (omega arith))
+pub overflow_mul-result : goal.overflow_mul-result
+overflow_mul-result c = omega (arith, room (get_or c.args.bytes.now c.loop-k.i 0) c.loop-k.scale c.loop-k.k c.if-group-lt128.true c.loop-k.invariant.1 (omega arith))
 
-pub overflow-add-result : goal.overflow-add-result
-overflow-add-result c = omega (arith, room (get_or c.args.bytes.now c.loop-k.i 0) c.loop-k.scale c.loop-k.k c.if-group-lt128.true c.loop-k.invariant.1 (omega arith), pow_le c.loop-k.k (omega arith), c.loop-k.invariant.1, c.loop-k.invariant.2)
+pub overflow_add-result : goal.overflow_add-result
+overflow_add-result c = omega (arith, room (get_or c.args.bytes.now c.loop-k.i 0) c.loop-k.scale c.loop-k.k c.if-group-lt128.true c.loop-k.invariant.1 (omega arith), pow_le c.loop-k.k (omega arith), c.loop-k.invariant.1, c.loop-k.invariant.2)
 
 pub returns-then-group-lt128 : goal.returns-then-group-lt128
 returns-then-group-lt128 c =
@@ -59,27 +59,27 @@ returns-then-group-lt128 c =
     let v : Ok (c.loop-k.value + b * c.loop-k.scale, c.loop-k.i + 1) ≡ read_at bytes c.args.at =
     ap (λ s. Ok (c.loop-k.value + b * s, c.loop-k.i + 1)) c.loop-k.invariant.1
     ∙ ap (λ m. Ok (c.loop-k.value + b * 128 ^ c.loop-k.k, m)) (sym next) ∙ sym (ap (placed bytes c.args.at) whole) in
-    record { value = v; exact = exactly bytes c.args.at (Ok (c.loop-k.value + b * c.loop-k.scale, c.loop-k.i + 1)) c.ok.bytes v }
+    record { value = v; exact = exactly bytes c.args.at (Ok (c.loop-k.value + b * c.loop-k.scale, c.loop-k.i + 1)) c.type_inv.bytes v }
 
 -- the same of a group that another follows
 room-more : (b s k : ℕ) → b < 256 → s ≡ 128 ^ k → k ≤ 6 → (b - 128) * s ≤ 127 * 2 ^ 42
 room-more b s k small is few = room (b - 128) s k (omega arith) is few
 
-pub overflow-mul-value : goal.overflow-mul-value
-overflow-mul-value c = omega (arith, room-more (get_or c.args.bytes.now c.loop-k.i 0) c.loop-k.scale c.loop-k.k (omega (arith, c.type-inv.bytes c.loop-k.i)) c.loop-k.invariant.1 (omega arith))
+pub overflow_mul-value : goal.overflow_mul-value
+overflow_mul-value c = omega (arith, room-more (get_or c.args.bytes.now c.loop-k.i 0) c.loop-k.scale c.loop-k.k (omega (arith, c.type_inv.bytes c.loop-k.i)) c.loop-k.invariant.1 (omega arith))
 
-pub overflow-add-value : goal.overflow-add-value
-overflow-add-value c = omega (arith, room-more (get_or c.args.bytes.now c.loop-k.i 0) c.loop-k.scale c.loop-k.k (omega (arith, c.type-inv.bytes c.loop-k.i)) c.loop-k.invariant.1 (omega arith), pow_le c.loop-k.k (omega arith), c.loop-k.invariant.1, c.loop-k.invariant.2)
+pub overflow_add-value : goal.overflow_add-value
+overflow_add-value c = omega (arith, room-more (get_or c.args.bytes.now c.loop-k.i 0) c.loop-k.scale c.loop-k.k (omega (arith, c.type_inv.bytes c.loop-k.i)) c.loop-k.invariant.1 (omega arith), pow_le c.loop-k.k (omega arith), c.loop-k.invariant.1, c.loop-k.invariant.2)
 
-pub overflow-mul-scale : goal.overflow-mul-scale
-overflow-mul-scale c = omega (arith, pow_le c.loop-k.k (omega arith), c.loop-k.invariant.1)
+pub overflow_mul-scale : goal.overflow_mul-scale
+overflow_mul-scale c = omega (arith, pow_le c.loop-k.k (omega arith), c.loop-k.invariant.1)
 
 pub loop-k-preserved : goal.loop-k-preserved
 loop-k-preserved c =
     let b = get_or c.args.bytes.now c.loop-k.i 0 in
     let s = c.loop-k.scale in
     let is = c.loop-k.invariant.1 in
-    let byte : b < 256 = omega (arith, c.ok.bytes c.loop-k.i) in
+    let byte : b < 256 = omega (arith, c.type_inv.bytes c.loop-k.i) in
     let m : (b - 128) * s ≤ 127 * s = mul-le (b - 128) s 127 s (omega arith) (omega arith) in
     let e = at_more c.args.bytes.now c.loop-k.i c.loop-k.k (omega arith) c.if-i-bytes.false c.if-group-lt128.false in (
       omega arith,
@@ -95,4 +95,4 @@ returns c =
     let k : c.loop-k.k ≡ 6 = omega arith in
     let e : decoded_in (6 - c.loop-k.k) (drop c.loop-k.i bytes) ≡ Err NumberTooLong = rw k in
     let v = refused bytes c.args.at NumberTooLong c.at-2.result c.at-2.ensures (c.loop-k.invariant.3 ∙ ap (after c.loop-k.k c.loop-k.value) e) in
-    record { value = v; exact = exactly bytes c.args.at (Err c.at-2.result) c.ok.bytes v }
+    record { value = v; exact = exactly bytes c.args.at (Err c.at-2.result) c.type_inv.bytes v }

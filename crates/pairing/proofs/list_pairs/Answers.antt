@@ -8,8 +8,8 @@ use Rattle.pairing.proofs.list_pairs.Goals as goal
 pub returns-in-Ok : goal.returns-in-Ok
 returns-in-Ok c =
     let out = c.args.out.now in
-    let is = sym (loaded_is (loaded_within c.args.sheet.now) (sheet_meaning c.new-source.result) (sheet_meaning c.load-within.new.sheet) c.in-Ok.ensures.answer c.in-Ok.ensures.sheet) in
-    let told = c.list-source.ensures in
+    let is = sym (loaded_is (loaded_within c.args.sheet.now) (sheet_meaning c.new-source.result) (sheet_meaning c.load_within.new.sheet) c.in-Ok.ensures.answer c.in-Ok.ensures.sheet) in
+    let told = c.list_source.ensures in
     record {
       answer = told.answer ∙ ap (λ r. sized (fitted (length out) (listed_after r))) is;
       after = told.after ∙ ap (λ r. put_into out (fitted (length out) (listed_after r))) is;

@@ -7,15 +7,15 @@ pub returns-in-Ok : goal.returns-in-Ok
 returns-in-Ok c =
     let r = listed c.args.sheet.now in
     let long : length c.args.text.now ≡ 8320 = omega arith in
-    let same : listed_within c.args.sheet.now (length c.args.text.now) ≡ listed c.args.sheet.now = ap (λ n. fitted n r) long ∙ fits 8320 r c.list-pairs.ensures.short in
-    let still : 8320 ≡ length c.list-pairs.new.out = omega (arith, c.list-pairs.auto.out) in
-    let there = put_there r c.args.text.now c.list-pairs.new.out c.in-Ok.len (subst (λ n. AtMost n r) still c.list-pairs.ensures.short) (c.in-Ok.ensures.answer ∙ ap sized same) (c.in-Ok.ensures.after ∙ ap (put_into c.args.text.now) same) in
-    record { text = there.0; refusal = there.1; paired = c.list-pairs.ensures.paired }
+    let same : listed_within c.args.sheet.now (length c.args.text.now) ≡ listed c.args.sheet.now = ap (λ n. fitted n r) long ∙ fits 8320 r c.list_pairs.ensures.short in
+    let still : 8320 ≡ length c.list_pairs.new.out = omega (arith, c.list_pairs.auto.out) in
+    let there = put_there r c.args.text.now c.list_pairs.new.out c.in-Ok.len (subst (λ n. AtMost n r) still c.list_pairs.ensures.short) (c.in-Ok.ensures.answer ∙ ap sized same) (c.in-Ok.ensures.after ∙ ap (put_into c.args.text.now) same) in
+    record { text = there.0; refusal = there.1; paired = c.list_pairs.ensures.paired }
 
 pub returns-in-Err : goal.returns-in-Err
 returns-in-Err c =
     let r = listed c.args.sheet.now in
     let long : length c.args.text.now ≡ 8320 = omega arith in
-    let same : listed_within c.args.sheet.now (length c.args.text.now) ≡ listed c.args.sheet.now = ap (λ n. fitted n r) long ∙ fits 8320 r c.list-pairs.ensures.short in
+    let same : listed_within c.args.sheet.now (length c.args.text.now) ≡ listed c.args.sheet.now = ap (λ n. fitted n r) long ∙ fits 8320 r c.list_pairs.ensures.short in
     let there = refused_there r c.in-Err.refusal (c.in-Err.ensures.answer ∙ ap sized same) in
-    record { text = subst (Holds c.put-refused.new.out c.put-refused.result) there.0 c.put-refused.ensures; refusal = there.1; paired = c.list-pairs.ensures.paired }
+    record { text = subst (Holds c.put_refused.new.out c.put_refused.result) there.0 c.put_refused.ensures; refusal = there.1; paired = c.list_pairs.ensures.paired }

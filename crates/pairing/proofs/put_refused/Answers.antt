@@ -7,9 +7,9 @@ use Rattle.pairing.proofs.put_refused.Goals as goal
 pub returns : goal.returns
 returns c =
     let out = c.args.out.now in
-    let a = c.put-bytes-number-at in
-    let n = c.put-decimal-number-end in
-    let e = c.put-bytes in
+    let a = c.put_bytes-number_at in
+    let n = c.put_decimal-number_end in
+    let e = c.put_bytes in
     let number = decimal c.number.result in
     writes_holds out e.new.out (refused_line c.args.refusal) e.result (omega (arith, a.auto.out, n.auto.out, e.auto.out))
     (writes_same out e.new.out 0 e.result (codes "refused " ++ (number ++ newline)) (refused_line c.args.refusal) (ap (λ k. codes "refused " ++ (decimal k ++ newline)) c.number.ensures.value)

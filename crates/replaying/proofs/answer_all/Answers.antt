@@ -9,11 +9,11 @@ pub returns : goal.returns
 returns g c =
     let calls = vec_items c.args.log.now.calls in
     let m = layered (held_in c.args.log.now) (g.S.Source.meaning c.args.source) in
-    let size : length c.perform-layered.new.answers ≡ c.in-ok-answers.answers.len = c.perform-layered.auto.answers ∙ c.deref-mut.ensures.len in
-    let got : c.deref-3.result.now ≡ c.perform-layered.new.answers =
-    c.deref-3.ensures.value ∙ take_at c.perform-layered.new.answers (drop (length c.perform-layered.new.answers) c.in-ok-answers.answers.items) c.in-ok-answers.answers.len size in (
-      c.in-ok-append-lines.ensures ∙ ap (λ t. t ++ answer_lines c.deref-2.result.now c.deref-3.result.now) c.new-text.ensures.bytes
+    let size : length c.perform_layered.new.answers ≡ c.in_ok-answers.answers.len = c.perform_layered.auto.answers ∙ c.deref-mut.ensures.len in
+    let got : c.deref-3.result.now ≡ c.perform_layered.new.answers =
+    c.deref-3.ensures.value ∙ take_at c.perform_layered.new.answers (drop (length c.perform_layered.new.answers) c.in_ok-answers.answers.items) c.in_ok-answers.answers.len size in (
+      c.in_ok-append_lines.ensures ∙ ap (λ t. t ++ answer_lines c.deref-2.result.now c.deref-3.result.now) c.new-text.ensures.bytes
           ∙ ap (λ cs. answer_lines cs c.deref-3.result.now) c.deref-2.ensures.value
-          ∙ ap (answer_lines calls) (got ∙ c.perform-layered.ensures ∙ ap (answers_from m None) c.deref.ensures.value),
+          ∙ ap (answer_lines calls) (got ∙ c.perform_layered.ensures ∙ ap (answers_from m None) c.deref.ensures.value),
       refl,
     )

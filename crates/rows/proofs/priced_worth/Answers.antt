@@ -7,8 +7,8 @@ pub returns : goal.returns
 returns g c =
     let m = g.S.Source.meaning c.args.source.now in
     record {
-      piled = c.worth-of.ensures;
-      worth = c.worth-of.ensures ∙ worth_times c.args.factor (floor_of c.args.floor m) c.args.carrier c.args.job
+      piled = c.worth_of.ensures;
+      worth = c.worth_of.ensures ∙ worth_times c.args.factor (floor_of c.args.floor m) c.args.carrier c.args.job
           ∙ ap (scaled c.args.factor) (worth_floor c.args.floor m c.args.carrier c.args.job);
       meaning = floor_then_times c.args.floor c.args.factor m;
     }

@@ -18,16 +18,16 @@ loop-k-preserved g c =
       | in-Some w ↦
           let at = w.in-Some in
           let top = entry_within m sound i k at.field-0-0 at.worth at.ensures in
-          let more = one_more (row_of m i) k at.field-0-0 at.worth (omega (arith, row_len_some m i c.in-ok-len.len c.in-ok-len.ensures))
+          let more = one_more (row_of m i) k at.field-0-0 at.worth (omega (arith, row_len_some m i c.in_ok-len.len c.in_ok-len.ensures))
           (entry_read m i k (at.field-0-0, at.worth) at.ensures) c.loop-k.total c.loop-k.invariant.0 in
           (w.total-is ∙ ap (λ n. c.loop-k.total + n) w.from-total.ensures ∙ more, omega (arith, top, sound.small))
-      | in-default w ↦ absurd (never_none m i c.in-ok-len.len k c.in-ok-len.ensures c.loop-k-test.true w.in-default.ensures)
+      | in-default w ↦ absurd (never_none m i c.in_ok-len.len k c.in_ok-len.ensures c.loop-k-test.true w.in-default.ensures)
     ]
 
 pub returns : goal.returns
 returns g c =
     let m = g.S.Source.meaning c.args.source.now in
     let i = c.args.carrier in
-    let has = c.in-ok-len.ensures in
-    ap Some (c.loop-k.invariant.0 ∙ ap worths (take_all c.loop-k.k (row_of m i) (omega (arith, row_len_some m i c.in-ok-len.len has))))
-    ∙ sym (ap (option_map worths) (row_there m i c.in-ok-len.len has))
+    let has = c.in_ok-len.ensures in
+    ap Some (c.loop-k.invariant.0 ∙ ap worths (take_all c.loop-k.k (row_of m i) (omega (arith, row_len_some m i c.in_ok-len.len has))))
+    ∙ sym (ap (option_map worths) (row_there m i c.in_ok-len.len has))

@@ -19,11 +19,11 @@ more-starts = refl
 pub returns : goal.returns
 returns c =
     let a : c.load-whole.result ≡ Ok (heading_of three_by_three) = c.load-whole.ensures.answer ∙ ap heading_answer more-starts in
-    let b : c.load-one-carrier-more.result ≡ Err (fault_at NumberCut 25) =
-    c.load-one-carrier-more.ensures.answer ∙ ap (λ n. heading_answer (loaded (4 ∷ behind_first) n (length c.load-whole.new.entries))) c.load-whole.auto.starts
+    let b : c.load-one_carrier_more.result ≡ Err (fault_at NumberCut 25) =
+    c.load-one_carrier_more.ensures.answer ∙ ap (λ n. heading_answer (loaded (4 ∷ behind_first) n (length c.load-whole.new.entries))) c.load-whole.auto.starts
     ∙ ap (λ n. heading_answer (loaded (4 ∷ behind_first) 5 n)) c.load-whole.auto.entries ∙ ap heading_answer worked.one_carrier_more in
     record {
-      value = ap (λ r. record { whole = r; one_carrier_more = c.load-one-carrier-more.result }) a
+      value = ap (λ r. record { whole = r; one_carrier_more = c.load-one_carrier_more.result }) a
           ∙ ap (λ r. record { whole = Ok (heading_of three_by_three); one_carrier_more = r }) b;
       worked = worked;
     }

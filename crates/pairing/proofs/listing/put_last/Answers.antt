@@ -6,13 +6,13 @@ use Rattle.pairing.proofs.listing.put_last.Goals as goal
 pub returns : goal.returns
 returns c =
     let at = c.args.at in
-    let w = c.put-bytes-worth-at in
-    let x = c.put-decimal-worth-end in
-    let a = c.put-bytes-awards-at in
-    let b = c.put-decimal-awards-end in
-    let s = c.put-bytes-stale-at in
-    let t = c.put-decimal-stale-end in
-    let e = c.put-bytes in
+    let w = c.put_bytes-worth_at in
+    let x = c.put_decimal-worth_end in
+    let a = c.put_bytes-awards_at in
+    let b = c.put_decimal-awards_end in
+    let s = c.put_bytes-stale_at in
+    let t = c.put_decimal-stale_end in
+    let e = c.put_bytes in
     let last = e.new.out in
     let end = e.result in
     let stale-text = decimal c.args.counts.stales ++ newline in

@@ -5,10 +5,10 @@ use Rattle.pairing.proofs.listing.put_line.Goals as goal
 
 pub returns : goal.returns
 returns g c =
-    let d = c.put-decimal-carrier-end in
-    let s = c.put-bytes-standing-at in
-    let t = c.put-standing-standing-end in
-    let e = c.put-bytes in
+    let d = c.put_decimal-carrier_end in
+    let s = c.put_bytes-standing_at in
+    let t = c.put_standing-standing_end in
+    let e = c.put_bytes in
     let text = standing_text (g.S.Source.meaning c.args.source.now) c.args.carrier c.args.standing in
     record {
       written = writes_then c.args.out.now d.new.out e.new.out c.args.at d.result e.result (decimal c.args.carrier) (space ++ (text ++ newline)) d.auto.out d.ensures.written

@@ -14,7 +14,7 @@ loop-i-preserved g c =
     let m = g.S.Source.meaning c.args.source.now in
     let ss = c.args.standings.now in
     let i = c.loop-i.i in
-    let p = c.put-line-next in (
+    let p = c.put_line-next in (
       writes_same c.args.out.now p.new.out 0 p.result (carrier_lines m 0 (take i ss) ++ carrier_line m i (get_or ss i Waiting)) (carrier_lines m 0 (take (i + 1) ss)) (lines_more m ss i Waiting c.loop-i-test.true)
           (writes_then c.args.out.now c.loop-i.out p.new.out 0 c.loop-i.next p.result (carrier_lines m 0 (take i ss)) (carrier_line m i (get_or ss i Waiting)) c.loop-i.auto.out c.loop-i.invariant.0 p.ensures.written),
       omega (arith, p.ensures.short, c.loop-i.invariant.1),

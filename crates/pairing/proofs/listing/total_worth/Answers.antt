@@ -5,11 +5,11 @@ use Rattle.auction.specs.Laws.{job_served, worth_along}
 use Rattle.pairing.proofs.Lines.{along_more, given_capped}
 use Rattle.pairing.proofs.listing.total_worth.Goals as goal
 
-pub overflow-add-total : goal.overflow-add-total
-overflow-add-total g c =
+pub overflow_add-total : goal.overflow_add-total
+overflow_add-total g c =
     let m = g.S.Source.meaning c.args.source.now in
     let cap = given_capped m (g.S.Source.sound c.args.source.now) c.loop-i.i (job_served (get_or c.args.standings.now c.loop-i.i Waiting)) in
-    omega (arith, c.worth-served-total.ensures, cap, c.loop-i.invariant.1, c.requires.low, c.requires.few)
+    omega (arith, c.worth_served-total.ensures, cap, c.loop-i.invariant.1, c.requires.low, c.requires.few)
 
 pub loop-i-preserved : goal.loop-i-preserved
 loop-i-preserved g c =
@@ -18,7 +18,7 @@ loop-i-preserved g c =
     let cap = given_capped m s c.loop-i.i (job_served (get_or c.args.standings.now c.loop-i.i Waiting)) in
     let inside : c.loop-i.i < length (g.S.Source.meaning c.args.source.now).rows = omega (arith, s.counted, c.requires.each) in
     let more = along_more m.rows c.args.standings.now c.loop-i.i Waiting inside c.loop-i-test.true in
-    (omega (arith, more, c.worth-served-total.ensures, c.loop-i.invariant.0), omega (arith, c.worth-served-total.ensures, cap, c.loop-i.invariant.1, c.requires.low))
+    (omega (arith, more, c.worth_served-total.ensures, c.loop-i.invariant.0), omega (arith, c.worth_served-total.ensures, cap, c.loop-i.invariant.1, c.requires.low))
 
 pub returns : goal.returns
 returns g c =

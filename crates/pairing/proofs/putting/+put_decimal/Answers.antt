@@ -6,13 +6,13 @@ use Rattle.pairing.proofs.putting.+put_decimal.Goals as goal
 pub returns-then-n-lt10 : goal.returns-then-n-lt10
 returns-then-n-lt10 t c =
     let n = c.args.n in
-    let w = writes_same c.args.out.now c.put-bytes.new.out c.args.at c.put-bytes.result ((48 + n % 10) ∷ []) (decimal n) (ap (λ k. (48 + k) ∷ []) (mod-eq_of_lt c.if-n-lt10.true) ∙ sym (decimal_digit n c.if-n-lt10.true)) c.put-bytes.ensures in
-    record { written = w; short = omega (arith, c.put-bytes.ensures.0) }
+    let w = writes_same c.args.out.now c.put_bytes.new.out c.args.at c.put_bytes.result ((48 + n % 10) ∷ []) (decimal n) (ap (λ k. (48 + k) ∷ []) (mod-eq_of_lt c.if-n-lt10.true) ∙ sym (decimal_digit n c.if-n-lt10.true)) c.put_bytes.ensures in
+    record { written = w; short = omega (arith, c.put_bytes.ensures.0) }
 
 pub returns-else-n-lt10 : goal.returns-else-n-lt10
 returns-else-n-lt10 t c =
     let n = c.args.n in
-    let w = writes_same c.args.out.now c.put-bytes-else-n-lt10.new.out c.args.at c.put-bytes-else-n-lt10.result _ (decimal n) (sym (decimal_step n c.if-n-lt10.false (omega arith)))
-    (writes_then c.args.out.now c.put-decimal-next.new.out c.put-bytes-else-n-lt10.new.out c.args.at c.put-decimal-next.result c.put-bytes-else-n-lt10.result (decimal (n / 10)) ((48 + n % 10) ∷ [])
-    c.put-decimal-next.auto.out c.put-decimal-next.ensures.written c.put-bytes-else-n-lt10.ensures) in
+    let w = writes_same c.args.out.now c.put_bytes-else-n-lt10.new.out c.args.at c.put_bytes-else-n-lt10.result _ (decimal n) (sym (decimal_step n c.if-n-lt10.false (omega arith)))
+    (writes_then c.args.out.now c.put_decimal-next.new.out c.put_bytes-else-n-lt10.new.out c.args.at c.put_decimal-next.result c.put_bytes-else-n-lt10.result (decimal (n / 10)) ((48 + n % 10) ∷ [])
+    c.put_decimal-next.auto.out c.put_decimal-next.ensures.written c.put_bytes-else-n-lt10.ensures) in
     record { written = w; short = omega (arith, w.0, length-decimal-le 20 n (omega arith) (omega arith) (omega arith)) }

@@ -9,7 +9,7 @@ returns-then-next-out c =
     let bytes = c.args.bytes.now in
     let e : c.args.at + (c.args.at + length c.args.bytes.now - c.args.at) ≡ c.args.at + length c.args.bytes.now = omega arith in (
       refl,
-      λ _. ap (λ ys. take at out ++ (ys ++ drop (at + length bytes - at) (drop at out))) c.copy-from-slice.ensures.after
+      λ _. ap (λ ys. take at out ++ (ys ++ drop (at + length bytes - at) (drop at out))) c.copy_from_slice.ensures.after
           ∙ ap (λ rest. take at out ++ (bytes ++ rest)) (drop-drop (at + length bytes - at) at out ∙ ap (λ n. drop n out) e),
     )
 

@@ -9,8 +9,8 @@ returns-then-not-branch c =
     let text = c.args.text.now in
     let a = held_in c.loop-at.log in
     let n = c.loop-at.line in
-    sym (sym c.loop-at.invariant.2 ∙ ap (asked_from n a) (line_more c.loop-at.at c.first-len-end.result text _ c.loop-at-test.true (take_rest text c.loop-at.at) c.first-len-end.ensures.value)
-    ∙ asked_bad n a _ _ c.said-in.result c.said-in.ensures (c.in-ok-note.ensures ∙ ap (λ t. cond t (Some (held_in c.note.new.self)) None) c.if-not-branch.true))
+    sym (sym c.loop-at.invariant.2 ∙ ap (asked_from n a) (line_more c.loop-at.at c.first_len-end.result text _ c.loop-at-test.true (take_rest text c.loop-at.at) c.first_len-end.ensures.value)
+    ∙ asked_bad n a _ _ c.said_in.result c.said_in.ensures (c.in_ok-note.ensures ∙ ap (λ t. cond t (Some (held_in c.note.new.self)) None) c.if-not-branch.true))
 
 pub loop-at-preserved : goal.loop-at-preserved
 loop-at-preserved c =
@@ -19,10 +19,10 @@ loop-at-preserved c =
     let n = c.loop-at.line in
     let size : length (take (length c.args.text.now - c.loop-at.at) (drop c.loop-at.at c.args.text.now)) ≡ length c.args.text.now - c.loop-at.at =
     ap length (take_rest text c.loop-at.at) ∙ length-drop c.loop-at.at text in (
-      omega (arith, size, c.first-len-end.ensures.within, c.loop-at-test.true),
+      omega (arith, size, c.first_len-end.ensures.within, c.loop-at-test.true),
       omega (arith, c.loop-at.invariant.1),
-      sym (ap (asked_from n a) (line_more c.loop-at.at c.first-len-end.result text _ c.loop-at-test.true (take_rest text c.loop-at.at) c.first-len-end.ensures.value)
-          ∙ asked_more n a (held_in c.note.new.self) _ _ c.said-in.result c.said-in.ensures (c.in-ok-note.ensures ∙ ap (λ t. cond t (Some (held_in c.note.new.self)) None) c.if-not-branch.false))
+      sym (ap (asked_from n a) (line_more c.loop-at.at c.first_len-end.result text _ c.loop-at-test.true (take_rest text c.loop-at.at) c.first_len-end.ensures.value)
+          ∙ asked_more n a (held_in c.note.new.self) _ _ c.said_in.result c.said_in.ensures (c.in_ok-note.ensures ∙ ap (λ t. cond t (Some (held_in c.note.new.self)) None) c.if-not-branch.false))
           ∙ c.loop-at.invariant.2,
     )
 

@@ -5,7 +5,7 @@ use Rattle.replaying.proofs.printing.append_lines.Goals as goal
 
 pub loop-i-preserved : goal.loop-i-preserved
 loop-i-preserved c =
-    line_added c.args.calls.now c.args.answers.now c.loop-i.i _ _ (string_bytes c.loop-i.text) (string_bytes c.append-line.new.text) c.loop-i-test.true (omega (arith, c.requires)) c.in-ok-append-line.ensures ∙ c.loop-i.invariant
+    line_added c.args.calls.now c.args.answers.now c.loop-i.i _ _ (string_bytes c.loop-i.text) (string_bytes c.append_line.new.text) c.loop-i-test.true (omega (arith, c.requires)) c.in_ok-append_line.ensures ∙ c.loop-i.invariant
 
 pub returns : goal.returns
 returns c =

@@ -8,9 +8,9 @@ use Rattle.sheetfile.proofs.whole.load_sheet.Goals as goal
 
 pub returns-in-Ok : goal.returns-in-Ok
 returns-in-Ok c =
-    let k = whole c.args.bytes.now c.args.starts.now c.args.entries.now c.type-inv.bytes c.load.new.starts c.load.new.entries c.load.ensures.starts c.load.ensures.entries c.in-ok-heading.heading c.in-ok-heading.ensures.answer in
-    let f = whole_file c.args.bytes.now c.args.starts.now c.args.entries.now c.type-inv.bytes c.load.new.starts c.load.new.entries c.load.ensures.starts c.load.ensures.entries c.in-ok-heading.heading c.in-ok-heading.ensures.answer in
-    let m = means_whole c.args.bytes.now c.args.starts.now c.args.entries.now c.type-inv.bytes c.load.new.starts c.load.new.entries c.load.ensures.starts c.load.ensures.entries c.in-ok-heading.heading c.in-ok-heading.ensures.answer in
+    let k = whole c.args.bytes.now c.args.starts.now c.args.entries.now c.type_inv.bytes c.load.new.starts c.load.new.entries c.load.ensures.starts c.load.ensures.entries c.in_ok-heading.heading c.in_ok-heading.ensures.answer in
+    let f = whole_file c.args.bytes.now c.args.starts.now c.args.entries.now c.type_inv.bytes c.load.new.starts c.load.new.entries c.load.ensures.starts c.load.ensures.entries c.in_ok-heading.heading c.in_ok-heading.ensures.answer in
+    let m = means_whole c.args.bytes.now c.args.starts.now c.args.entries.now c.type_inv.bytes c.load.new.starts c.load.new.entries c.load.ensures.starts c.load.ensures.entries c.in_ok-heading.heading c.in_ok-heading.ensures.answer in
     let v = loaded c.args.bytes.now (length c.args.starts.now) (length c.args.entries.now) in
     let e : sheet_meaning c.fill.new.self ≡ k.0 = c.in-Ok.ensures.means ∙ m in
     record {

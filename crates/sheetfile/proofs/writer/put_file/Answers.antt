@@ -38,25 +38,25 @@ module _ (m : Meaning) (s : Sound m) (h : Heading) (whose : h ≡ heading_of m) 
     total-few = omega (arith, entries_few (take i m.rows) front-light, front_long, good.carriers_high)
 
 pub loop-i-init : goal.loop-i-init
-loop-i-init g c = (writes_none c.put-heading-next.new.out c.put-heading-next.result, refl)
+loop-i-init g c = (writes_none c.put_heading-next.new.out c.put_heading-next.result, refl)
 
-pub put-row-next-requires : goal.put-row-next-requires
-put-row-next-requires g c =
+pub put_row-next-requires : goal.put_row-next-requires
+put_row-next-requires g c =
     let m = g.S.Source.meaning c.args.source.now in
     let s = g.S.Source.sound c.args.source.now in
     let good = limits c.args.heading c.requires.within in
     record {
       jobs = jobs-few m s c.args.heading c.requires.whose good;
       ceiling = ceiling-low m s c.args.heading c.requires.whose good;
-      near = omega (arith, c.loop-i.invariant.0.0, bytes-few m s c.args.heading c.requires.whose good c.loop-i.i (omega arith), c.put-heading-next.ensures.0, heading_short c.args.heading good);
+      near = omega (arith, c.loop-i.invariant.0.0, bytes-few m s c.args.heading c.requires.whose good c.loop-i.i (omega arith), c.put_heading-next.ensures.0, heading_short c.args.heading good);
     }
 
-pub overflow-add-total : goal.overflow-add-total
-overflow-add-total g c =
+pub overflow_add-total : goal.overflow_add-total
+overflow_add-total g c =
     let m = g.S.Source.meaning c.args.source.now in
     let s = g.S.Source.sound c.args.source.now in
     let good = limits c.args.heading c.requires.within in
-    omega (arith, c.loop-i.invariant.1, total-few m s c.args.heading c.requires.whose good c.loop-i.i (omega arith), c.row-count-total.ensures, kept_short (row_of m c.loop-i.i), row_length m s c.loop-i.i, jobs-few m s c.args.heading c.requires.whose good)
+    omega (arith, c.loop-i.invariant.1, total-few m s c.args.heading c.requires.whose good c.loop-i.i (omega arith), c.row_count-total.ensures, kept_short (row_of m c.loop-i.i), row_length m s c.loop-i.i, jobs-few m s c.args.heading c.requires.whose good)
 
 pub loop-i-preserved : goal.loop-i-preserved
 loop-i-preserved g c =
@@ -65,21 +65,21 @@ loop-i-preserved g c =
     let good = limits c.args.heading c.requires.within in
     let l = c.loop-i in
     let inside : c.loop-i.i < length (g.S.Source.meaning c.args.source.now).rows = omega (arith, rows-there m s c.args.heading c.requires.whose good) in (
-      writes_same c.put-heading-next.new.out c.put-row-next.new.out c.put-heading-next.result c.put-row-next.result (flat_map row_bytes (map nonzero (take l.i m.rows)) ++ row_bytes (nonzero (row_of m l.i))) (flat_map row_bytes (map nonzero (take (c.loop-i.i + 1) m.rows)))
+      writes_same c.put_heading-next.new.out c.put_row-next.new.out c.put_heading-next.result c.put_row-next.result (flat_map row_bytes (map nonzero (take l.i m.rows)) ++ row_bytes (nonzero (row_of m l.i))) (flat_map row_bytes (map nonzero (take (c.loop-i.i + 1) m.rows)))
           (rows_more m.rows l.i inside)
-          (writes_then c.put-heading-next.new.out l.out c.put-row-next.new.out c.put-heading-next.result l.next c.put-row-next.result (flat_map row_bytes (map nonzero (take l.i m.rows))) (row_bytes (nonzero (row_of m l.i)))
-          l.auto.out l.invariant.0 c.put-row-next.ensures),
-      omega (arith, l.invariant.1, c.row-count-total.ensures, entries_more m.rows l.i inside),
+          (writes_then c.put_heading-next.new.out l.out c.put_row-next.new.out c.put_heading-next.result l.next c.put_row-next.result (flat_map row_bytes (map nonzero (take l.i m.rows))) (row_bytes (nonzero (row_of m l.i)))
+          l.auto.out l.invariant.0 c.put_row-next.ensures),
+      omega (arith, l.invariant.1, c.row_count-total.ensures, entries_more m.rows l.i inside),
     )
 
-pub put-number-requires : goal.put-number-requires
-put-number-requires g c =
+pub put_number-requires : goal.put_number-requires
+put_number-requires g c =
     let m = g.S.Source.meaning c.args.source.now in
     let s = g.S.Source.sound c.args.source.now in
     let good = limits c.args.heading c.requires.within in
     record {
       small = omega (arith, c.loop-i.invariant.1, total-few m s c.args.heading c.requires.whose good c.loop-i.i (omega arith));
-      near = omega (arith, c.loop-i.invariant.0.0, bytes-few m s c.args.heading c.requires.whose good c.loop-i.i (omega arith), c.put-heading-next.ensures.0, heading_short c.args.heading good);
+      near = omega (arith, c.loop-i.invariant.0.0, bytes-few m s c.args.heading c.requires.whose good c.loop-i.i (omega arith), c.put_heading-next.ensures.0, heading_short c.args.heading good);
     }
 
 pub returns : goal.returns
@@ -89,11 +89,11 @@ returns g c =
     let good = limits c.args.heading c.requires.within in
     let l = c.loop-i in
     let all : take c.loop-i.i (g.S.Source.meaning c.args.source.now).rows ≡ (g.S.Source.meaning c.args.source.now).rows = take_all l.i m.rows (omega (arith, rows-there m s c.args.heading c.requires.whose good)) in
-    writes_same c.args.out.now c.put-number.new.out 0 c.put-number.result (heading_bytes c.args.heading ++ (flat_map row_bytes (map nonzero (take l.i m.rows)) ++ encoded l.total)) (written m)
+    writes_same c.args.out.now c.put_number.new.out 0 c.put_number.result (heading_bytes c.args.heading ++ (flat_map row_bytes (map nonzero (take l.i m.rows)) ++ encoded l.total)) (written m)
     (ap (λ h. heading_bytes h ++ (flat_map row_bytes (map nonzero (take c.loop-i.i m.rows)) ++ encoded c.loop-i.total)) c.requires.whose
     ∙ ap (λ n. heading_bytes (heading_of m) ++ (flat_map row_bytes (map nonzero (take c.loop-i.i m.rows)) ++ encoded n)) l.invariant.1
     ∙ ap (λ rows. heading_bytes (heading_of m) ++ (flat_map row_bytes (map nonzero rows) ++ encoded (entries_in (map nonzero rows)))) all)
-    (writes_then c.args.out.now c.put-heading-next.new.out c.put-number.new.out 0 c.put-heading-next.result c.put-number.result (heading_bytes c.args.heading) (flat_map row_bytes (map nonzero (take l.i m.rows)) ++ encoded l.total)
-    c.put-heading-next.auto.out c.put-heading-next.ensures
-    (writes_then c.put-heading-next.new.out l.out c.put-number.new.out c.put-heading-next.result l.next c.put-number.result (flat_map row_bytes (map nonzero (take l.i m.rows))) (encoded l.total)
-    l.auto.out l.invariant.0 c.put-number.ensures))
+    (writes_then c.args.out.now c.put_heading-next.new.out c.put_number.new.out 0 c.put_heading-next.result c.put_number.result (heading_bytes c.args.heading) (flat_map row_bytes (map nonzero (take l.i m.rows)) ++ encoded l.total)
+    c.put_heading-next.auto.out c.put_heading-next.ensures
+    (writes_then c.put_heading-next.new.out l.out c.put_number.new.out c.put_heading-next.result l.next c.put_number.result (flat_map row_bytes (map nonzero (take l.i m.rows))) (encoded l.total)
+    l.auto.out l.invariant.0 c.put_number.ensures))

@@ -12,10 +12,10 @@ returns g c =
     ap (λ n. within_limits (record { carriers = n; jobs = m.jobs; ceiling = m.ceiling })) (sym c.carriers.ensures)
     ∙ ap (λ n. within_limits (record { carriers = c.carriers.result; jobs = n; ceiling = m.ceiling })) (sym c.jobs.ensures)
     ∙ ap (λ n. within_limits (record { carriers = c.carriers.result; jobs = c.jobs.result; ceiling = n })) (sym c.ceiling.ensures)
-    ∙ sym c.within-limits.ensures ∙ c.if-not-within-limits.false in
-    let room : c.put-file.result ≤ length c.args.out.now = omega (arith, c.put-file.ensures.0, c.put-file-len.ensures.0) in
+    ∙ sym c.within_limits.ensures ∙ c.if-not-within_limits.false in
+    let room : c.put_file.result ≤ length c.args.out.now = omega (arith, c.put_file.ensures.0, c.put_file-len.ensures.0) in
     record {
-      answer = sym (accepted m s is c.args.out.now c.put-file.new.out c.put-file.result c.put-file.ensures room);
-      after = c.put-file.ensures.1 room;
-      loadable = written_loads m s is c.args.out.now c.put-file.new.out c.put-file.result c.put-file.ensures room;
+      answer = sym (accepted m s is c.args.out.now c.put_file.new.out c.put_file.result c.put_file.ensures room);
+      after = c.put_file.ensures.1 room;
+      loadable = written_loads m s is c.args.out.now c.put_file.new.out c.put_file.result c.put_file.ensures room;
     }

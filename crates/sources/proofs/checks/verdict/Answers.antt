@@ -9,6 +9,6 @@ returns-in-Some c =
     let ss = c.args.starts.now in
     let es = c.args.entries.now in
     let z : get_or c.args.starts.now c.args.heading.carriers 0 - 0 ≡ last_of c.args.heading c.args.starts.now = omega arith in
-    sym (ap or_refused (cond-true (within_limits h) _ _ (sym c.within-limits.ensures ∙ c.if-not-within-limits.false)
-    ∙ cond-true (starts_good h ss (length es)) _ _ (sym c.starts-good.ensures ∙ c.if-not-starts-good.false)
+    sym (ap or_refused (cond-true (within_limits h) _ _ (sym c.within_limits.ensures ∙ c.if-not-within_limits.false)
+    ∙ cond-true (starts_good h ss (length es)) _ _ (sym c.starts_good.ensures ∙ c.if-not-starts_good.false)
     ∙ ap (λ n. entry_refusal h ss (take n es)) (sym z) ∙ sym c.in-Some.ensures))

@@ -12,6 +12,6 @@ played = refl
 
 pub returns : goal.returns
 returns c = record {
-  value = c.one-job.ensures ∙ played;
+  value = c.one_job.ensures ∙ played;
   worked = played;
 }

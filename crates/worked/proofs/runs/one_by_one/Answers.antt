@@ -12,6 +12,6 @@ played = refl
 
 pub returns : goal.returns
 returns c = record {
-  value = c.play-table.ensures ∙ played;
+  value = c.play_table.ensures ∙ played;
   worked = played;
 }

@@ -9,22 +9,22 @@ use Rattle.hall.proofs.RunSteps.{few_entries, gathered_few, gathered_on, one_wai
 use Rattle.hall.proofs.books.Books.begin.Goals as goal
 use Rattle.hall.proofs.books.Books.begin.Goals.{in-Waiting, in-Bidding, in-Served, in-Out}
 
-pub offset-bounds-self-carrier : goal.offset-bounds-self-carrier
-offset-bounds-self-carrier g c =
+pub offset_bounds-self-carrier : goal.offset_bounds-self-carrier
+offset_bounds-self-carrier g c =
     let l : c.loop-carrier.carrier < 128 = few_places c.args.self.now c.loop-carrier.carrier c.loop-carrier-test.true in
     search rules
 
 pub bounds-self-carrier : goal.bounds-self-carrier
 bounds-self-carrier g c = few_places c.args.self.now c.loop-carrier.carrier c.loop-carrier-test.true
 
-pub looks-for-looks-left-requires : goal.looks-for-looks-left-requires
-looks-for-looks-left-requires g c =
+pub looks_for-looks_left-requires : goal.looks_for-looks_left-requires
+looks_for-looks_left-requires g c =
     let m = g.S.Source.meaning c.args.source.now in
     let k = (consistent_in c.args.self.now).limits in
     record {
       some = k.some_lanes;
       few = k.few_lanes;
-      short = omega (arith, c.saturating-sub-entries.ensures, c.row-length.ensures, few_entries m (g.S.Source.sound c.args.source.now) c.args.self.now c.requires.open c.loop-carrier.carrier);
+      short = omega (arith, c.saturating_sub-entries.ensures, c.row_length.ensures, few_entries m (g.S.Source.sound c.args.source.now) c.args.self.now c.requires.open c.loop-carrier.carrier);
     }
 
 pub loop-carrier-preserved : goal.loop-carrier-preserved
@@ -49,7 +49,7 @@ loop-carrier-preserved g c =
             gathered_on (if_bidding m b.lanes) b i (Bidding w.in-Bidding.bid) (held c.loop-carrier.flight) (held c.match-standing.flight) l w.in-Bidding.is inv.1
                 (ap held w.flight-is ∙ pushed w.push-in-Bidding.result (held c.loop-carrier.flight) (held w.push-in-Bidding.new.self) _ (room c.loop-carrier.flight) w.push-in-Bidding.ensures.holds w.push-in-Bidding.ensures.test n
                 ∙ ap (λ z. held c.loop-carrier.flight ++ in_flight i z ∷ [])
-                (w.looks-for-looks-left.ensures ∙ ap (looks_for b.lanes) (w.saturating-sub-entries.ensures ∙ ap (λ z. z - w.in-Bidding.bid.looked) w.row-length.ensures))),
+                (w.looks_for-looks_left.ensures ∙ ap (looks_for b.lanes) (w.saturating_sub-entries.ensures ∙ ap (λ z. z - w.in-Bidding.bid.looked) w.row_length.ensures))),
             ap room w.line-is ∙ inv.2,
             ap room w.flight-is ∙ w.push-in-Bidding.ensures.size ∙ inv.3,
           )

@@ -6,43 +6,43 @@ use Rattle.hall.proofs.Tables.{open_parts, same_books, consistent_in, few_places
 use Rattle.hall.proofs.Calling.{admitted_parts, refused_bid, refused_tally, call_answered, call_keeps, call_tallied, standing_kept, counts_kept}
 use Rattle.hall.proofs.books.Books.call_on.Goals as goal
 
-pub returns-in-err-admit : goal.returns-in-err-admit
-returns-in-err-admit g c =
+pub returns-in_err-admit : goal.returns-in_err-admit
+returns-in_err-admit g c =
     let m = g.S.Source.meaning c.args.source.now in
-    let p = err_from_is_err_and c.from-residual.result c.from-residual.ensures.1 in
-    let e = refused_bid m c.args.carrier c.args.act c.args.self.now _ c.in-err-admit.ensures in
+    let p = err_from_is_err_and c.from_residual.result c.from_residual.ensures.1 in
+    let e = refused_bid m c.args.carrier c.args.act c.args.self.now _ c.in_err-admit.ensures in
     record {
       answered = p.1 ∙ ap Err p.2 ∙ e;
       tallied = refused_tally m c.args.carrier c.args.act (bids c.args.act c.args.carrier) _ _ e;
       refused = λ _. refl;
     }
 
-pub offset-bounds-self-carrier : goal.offset-bounds-self-carrier
-offset-bounds-self-carrier g c =
-    let a = admitted_parts (g.S.Source.meaning c.args.source.now) c.args.carrier c.args.self.now c.in-ok-admit.ensures in
+pub offset_bounds-self-carrier : goal.offset_bounds-self-carrier
+offset_bounds-self-carrier g c =
+    let a = admitted_parts (g.S.Source.meaning c.args.source.now) c.args.carrier c.args.self.now c.in_ok-admit.ensures in
     let l : c.args.carrier < 128 = few_places c.args.self.now c.args.carrier a.1 in
     search rules
 
 pub bounds-self-carrier : goal.bounds-self-carrier
 bounds-self-carrier g c =
-    let a = admitted_parts (g.S.Source.meaning c.args.source.now) c.args.carrier c.args.self.now c.in-ok-admit.ensures in
+    let a = admitted_parts (g.S.Source.meaning c.args.source.now) c.args.carrier c.args.self.now c.in_ok-admit.ensures in
     few_places c.args.self.now c.args.carrier a.1
 
 pub respond-requires : goal.respond-requires
 respond-requires g c =
     let m = g.S.Source.meaning c.args.source.now in
     let b = c.args.self.now in
-    let a = admitted_parts m c.args.carrier b c.in-ok-admit.ensures in
+    let a = admitted_parts m c.args.carrier b c.in_ok-admit.ensures in
     record {
       few_jobs = omega (arith, (open_parts m b a.0).2, (consistent_in b).limits.few_jobs);
       low_prices = low_prices_in m b a.0;
-      few-summonses = (low_counts b.carriers b.jobs b.ceiling _ (consistent_in b)).low_summonses;
+      few_summonses = (low_counts b.carriers b.jobs b.ceiling _ (consistent_in b)).low_summonses;
     }
 
 pub invariant-of-self : goal.invariant-of-self
 invariant-of-self g c = (
   ∣ call_keeps (g.S.Source.meaning c.args.source.now) c.args.carrier c.args.act c.args.self.now c.respond.result c.respond.new.standing c.respond.new.counts
-      c.in-ok-admit.ensures c.respond.ensures.answered c.respond.ensures.stood c.respond.ensures.numbered (g.S.Source.sound c.args.source.now) ∣₁,
+      c.in_ok-admit.ensures c.respond.ensures.answered c.respond.ensures.stood c.respond.ensures.numbered (g.S.Source.sound c.args.source.now) ∣₁,
   tt,
 )
 
@@ -53,12 +53,12 @@ returns g c =
     let b = c.args.self.now in
     record {
       answered = call_answered m i c.args.act b c.respond.result c.respond.new.standing c.respond.new.counts
-          c.in-ok-admit.ensures c.respond.ensures.answered c.respond.ensures.stood c.respond.ensures.numbered;
+          c.in_ok-admit.ensures c.respond.ensures.answered c.respond.ensures.stood c.respond.ensures.numbered;
       tallied = call_tallied m i c.args.act b c.respond.result c.respond.new.standing c.respond.new.counts
-          c.in-ok-admit.ensures c.respond.ensures.answered c.respond.ensures.stood c.respond.ensures.numbered _ refl refl;
+          c.in_ok-admit.ensures c.respond.ensures.answered c.respond.ensures.stood c.respond.ensures.numbered _ refl refl;
       refused = λ e. same_books _ b refl refl refl refl refl refl refl refl
           (standing_kept m i c.args.act b c.respond.result c.respond.new.standing c.respond.new.counts
-          c.in-ok-admit.ensures c.respond.ensures.answered c.respond.ensures.stood c.respond.ensures.numbered e)
+          c.in_ok-admit.ensures c.respond.ensures.answered c.respond.ensures.stood c.respond.ensures.numbered e)
           (counts_kept m i c.args.act b c.respond.result c.respond.new.standing c.respond.new.counts
-          c.in-ok-admit.ensures c.respond.ensures.answered c.respond.ensures.stood c.respond.ensures.numbered e);
+          c.in_ok-admit.ensures c.respond.ensures.answered c.respond.ensures.stood c.respond.ensures.numbered e);
     }

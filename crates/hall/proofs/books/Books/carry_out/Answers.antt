@@ -8,14 +8,14 @@ use Rattle.hall.proofs.Tables.{consistent_in, few_places, stands_in}
 use Rattle.hall.proofs.Settling.{out_keeps, stale_keeps, job_known, former_known, award_in, award_keeps}
 use Rattle.hall.proofs.books.Books.carry_out.Goals as goal
 
-pub offset-bounds-self-carrier : goal.offset-bounds-self-carrier
-offset-bounds-self-carrier c = let l : c.args.carrier < 128 = few_places c.args.self.now c.args.carrier c.requires.known in search rules
+pub offset_bounds-self-carrier : goal.offset_bounds-self-carrier
+offset_bounds-self-carrier c = let l : c.args.carrier < 128 = few_places c.args.self.now c.args.carrier c.requires.known in search rules
 
 pub bounds-self-carrier : goal.bounds-self-carrier
 bounds-self-carrier c = few_places c.args.self.now c.args.carrier c.requires.known
 
-pub overflow-add-self : goal.overflow-add-self
-overflow-add-self c =
+pub overflow_add-self : goal.overflow_add-self
+overflow_add-self c =
     let b = c.args.self.now in
     let l : b.counts.outs ≤ 128 = (low_counts b.carriers b.jobs b.ceiling (tally_in b) (consistent_in b)).low_outs in
     search rules
@@ -30,14 +30,14 @@ returns-in-Out c = record {
       ∙ sym (ap (λ v. carried_out c.args.carrier (best_worth c.args.bid.best) v (tally_in c.args.self.now)) c.in-Out.is);
 }
 
-pub offset-bounds-self-carrier-in-Stale : goal.offset-bounds-self-carrier-in-Stale
-offset-bounds-self-carrier-in-Stale c = let l : c.args.carrier < 128 = few_places c.args.self.now c.args.carrier c.requires.known in search rules
+pub offset_bounds-self-carrier-in-Stale : goal.offset_bounds-self-carrier-in-Stale
+offset_bounds-self-carrier-in-Stale c = let l : c.args.carrier < 128 = few_places c.args.self.now c.args.carrier c.requires.known in search rules
 
 pub bounds-self-carrier-in-Stale : goal.bounds-self-carrier-in-Stale
 bounds-self-carrier-in-Stale c = few_places c.args.self.now c.args.carrier c.requires.known
 
-pub overflow-add-self-in-Stale : goal.overflow-add-self-in-Stale
-overflow-add-self-in-Stale c =
+pub overflow_add-self-in-Stale : goal.overflow_add-self-in-Stale
+overflow_add-self-in-Stale c =
     let b = c.args.self.now in
     let l : b.counts.stales ≤ 2 ^ 52 = (low_counts b.carriers b.jobs b.ceiling (tally_in b) (consistent_in b)).low_stales in
     search rules
@@ -55,8 +55,8 @@ returns-in-Stale c = record {
 pub free-requires : goal.free-requires
 free-requires c = former_known c.args.self.now c.args.carrier c.args.bid c.args.verdict c.requires.known c.requires.bidding c.requires.ruled c.in-Awarded.award c.in-Awarded.is
 
-pub offset-bounds-self-award : goal.offset-bounds-self-award
-offset-bounds-self-award c =
+pub offset_bounds-self-award : goal.offset_bounds-self-award
+offset_bounds-self-award c =
     let l : c.in-Awarded.award.job < 256 =
     job_known c.args.self.now c.args.carrier c.args.bid c.args.verdict c.requires.known c.requires.bidding c.requires.ruled c.in-Awarded.award c.in-Awarded.is in
     search rules
@@ -65,8 +65,8 @@ pub bounds-self-award : goal.bounds-self-award
 bounds-self-award c =
     job_known c.args.self.now c.args.carrier c.args.bid c.args.verdict c.requires.known c.requires.bidding c.requires.ruled c.in-Awarded.award c.in-Awarded.is
 
-pub offset-bounds-self-award-in-Awarded : goal.offset-bounds-self-award-in-Awarded
-offset-bounds-self-award-in-Awarded c =
+pub offset_bounds-self-award-in-Awarded : goal.offset_bounds-self-award-in-Awarded
+offset_bounds-self-award-in-Awarded c =
     let l : c.in-Awarded.award.job < 256 =
     job_known c.args.self.now c.args.carrier c.args.bid c.args.verdict c.requires.known c.requires.bidding c.requires.ruled c.in-Awarded.award c.in-Awarded.is in
     search rules
@@ -75,14 +75,14 @@ pub bounds-self-award-in-Awarded : goal.bounds-self-award-in-Awarded
 bounds-self-award-in-Awarded c =
     job_known c.args.self.now c.args.carrier c.args.bid c.args.verdict c.requires.known c.requires.bidding c.requires.ruled c.in-Awarded.award c.in-Awarded.is
 
-pub offset-bounds-self-carrier-in-Awarded : goal.offset-bounds-self-carrier-in-Awarded
-offset-bounds-self-carrier-in-Awarded c = let l : c.args.carrier < 128 = few_places c.args.self.now c.args.carrier c.requires.known in search rules
+pub offset_bounds-self-carrier-in-Awarded : goal.offset_bounds-self-carrier-in-Awarded
+offset_bounds-self-carrier-in-Awarded c = let l : c.args.carrier < 128 = few_places c.args.self.now c.args.carrier c.requires.known in search rules
 
 pub bounds-self-carrier-in-Awarded : goal.bounds-self-carrier-in-Awarded
 bounds-self-carrier-in-Awarded c = few_places c.args.self.now c.args.carrier c.requires.known
 
-pub overflow-add-self-in-Awarded : goal.overflow-add-self-in-Awarded
-overflow-add-self-in-Awarded c =
+pub overflow_add-self-in-Awarded : goal.overflow_add-self-in-Awarded
+overflow_add-self-in-Awarded c =
     let b = c.args.self.now in
     let l : b.counts.awards ≤ 2 ^ 45 = (low_counts b.carriers b.jobs b.ceiling (tally_in b) (consistent_in b)).low_awards in
     search rules
@@ -90,7 +90,7 @@ overflow-add-self-in-Awarded c =
 pub invariant-of-self-in-Awarded : goal.invariant-of-self-in-Awarded
 invariant-of-self-in-Awarded c = (
   ∣ award_keeps c.args.self.now c.args.carrier c.args.bid c.args.verdict c.requires.known c.requires.bidding c.requires.ruled c.in-Awarded.award c.in-Awarded.is
-      c.free.new.standings c.best-worth.result c.free.ensures c.best-worth.ensures ∣₁,
+      c.free.new.standings c.best_worth.result c.free.ensures c.best_worth.ensures ∣₁,
   tt,
 )
 
@@ -98,6 +98,6 @@ pub returns-in-Awarded : goal.returns-in-Awarded
 returns-in-Awarded c = record {
   noted = search rules;
   tallied = award_in c.args.self.now c.args.carrier c.args.bid c.args.verdict c.requires.known c.requires.bidding c.requires.ruled c.in-Awarded.award c.in-Awarded.is
-      c.free.new.standings c.best-worth.result c.free.ensures c.best-worth.ensures
+      c.free.new.standings c.best_worth.result c.free.ensures c.best_worth.ensures
       ∙ sym (ap (λ v. carried_out c.args.carrier (best_worth c.args.bid.best) v (tally_in c.args.self.now)) c.in-Awarded.is);
 }

@@ -14,9 +14,9 @@ returns-then-first-gt0 g c =
     let a = after_call m c.args.self.now c.look.new.self (called m i Look) c.requires.open c.look.ensures.ruled.tallied in
     record {
       became = first_looked m c.args.self.now c.look.new.self i c.args.first.looks_left (held c.args.line.now) (held c.args.flight.now) (held c.push.new.self) (omega arith) a.0 a.1
-          (pushed c.push.result (held c.args.flight.now) (held c.push.new.self) _ (room c.args.flight.now) c.push.ensures.holds c.push.ensures.test c.requires.flight-place);
-      line-size = refl;
-      flight-size = c.push.ensures.size;
+          (pushed c.push.result (held c.args.flight.now) (held c.push.new.self) _ (room c.args.flight.now) c.push.ensures.holds c.push.ensures.test c.requires.flight_place);
+      line_size = refl;
+      flight_size = c.push.ensures.size;
     }
 
 pub returns-in-Some : goal.returns-in-Some
@@ -28,22 +28,22 @@ returns-in-Some g c =
       became = first_settled m c.args.self.now c.settle.new.self i c.args.first.looks_left (held c.args.line.now) (held c.push-in-Some.new.self) (held c.args.flight.now)
           (Ok c.in-Ok.verdict) (omega arith) a.0 a.1 c.requires.open c.in-Ok.ensures.answered
           (waits_told i c.in-Ok.verdict (Some c.in-Some.carrier) (held c.args.line.now) (held c.push-in-Some.new.self) c.in-Some.ensures
-          (pushed c.push-in-Some.result (held c.args.line.now) (held c.push-in-Some.new.self) _ (room c.args.line.now) c.push-in-Some.ensures.holds c.push-in-Some.ensures.test c.requires.line-place));
-      line-size = c.push-in-Some.ensures.size;
-      flight-size = refl;
+          (pushed c.push-in-Some.result (held c.args.line.now) (held c.push-in-Some.new.self) _ (room c.args.line.now) c.push-in-Some.ensures.holds c.push-in-Some.ensures.test c.requires.line_place));
+      line_size = c.push-in-Some.ensures.size;
+      flight_size = refl;
     }
 
-pub returns-in-default-waits-after : goal.returns-in-default-waits-after
-returns-in-default-waits-after g c =
+pub returns-in-default-waits_after : goal.returns-in-default-waits_after
+returns-in-default-waits_after g c =
     let m = g.S.Source.meaning c.args.source.now in
     let i = c.args.first.carrier in
     let a = after_call m c.args.self.now c.settle.new.self (settled m i) c.requires.open c.in-Ok.ensures.tallied in
     record {
       became = first_settled m c.args.self.now c.settle.new.self i c.args.first.looks_left (held c.args.line.now) (held c.args.line.now) (held c.args.flight.now)
           (Ok c.in-Ok.verdict) (omega arith) a.0 a.1 c.requires.open c.in-Ok.ensures.answered
-          (waits_told i c.in-Ok.verdict None (held c.args.line.now) (held c.args.line.now) c.in-default-waits-after.ensures (sym (append-nil (held c.args.line.now))));
-      line-size = refl;
-      flight-size = refl;
+          (waits_told i c.in-Ok.verdict None (held c.args.line.now) (held c.args.line.now) c.in-default-waits_after.ensures (sym (append-nil (held c.args.line.now))));
+      line_size = refl;
+      flight_size = refl;
     }
 
 pub returns-in-default : goal.returns-in-default
@@ -54,6 +54,6 @@ returns-in-default g c =
     record {
       became = first_settled m c.args.self.now c.settle.new.self i c.args.first.looks_left (held c.args.line.now) (held c.args.line.now) (held c.args.flight.now)
           (Err c.in-default.field-0) (omega arith) a.0 a.1 c.requires.open c.in-default.ensures.answered (sym (append-nil (held c.args.line.now)));
-      line-size = refl;
-      flight-size = refl;
+      line_size = refl;
+      flight_size = refl;
     }

@@ -17,8 +17,8 @@ loop-made-preserved g c =
       b.ready,
       ordered_on m c.args.depth old new line line' fs gs b inv.0 inv.1,
       steps_on m c.args.depth old new line line' fs gs b c.args.budget c.loop-made.-made c.loop-made.steps _ c.loop-made-test.true inv.2,
-      c.step.ensures.line-size,
-      c.step.ensures.flight-size,
+      c.step.ensures.line_size,
+      c.step.ensures.flight_size,
       ap (λ n. n + 1) inv.5,
     )
 
@@ -33,13 +33,13 @@ returns-after-loop-made g c =
       grown = run_grown m c.args.depth c.args.budget c.args.self.now c.loop-made.self _ _ _ _ _ (sym (no_steps m c.args.depth (c.args.budget - c.loop-made.-made) _ (omega arith)) ∙ inv.2);
     }
 
-pub returns-then-is-idle : goal.returns-then-is-idle
-returns-then-is-idle g c =
+pub returns-then-is_idle : goal.returns-then-is_idle
+returns-then-is_idle g c =
     let m = g.S.Source.meaning c.args.source.now in
     let inv = c.loop-made.invariant in
     record {
       ready = inv.0;
-      made = sym (idle_state m c.args.depth (c.args.budget - c.loop-made.-made) c.loop-made.steps c.loop-made.self (held c.loop-made.line) (held c.loop-made.flight) (sym c.if-is-idle.ensures)) ∙ inv.2;
+      made = sym (idle_state m c.args.depth (c.args.budget - c.loop-made.-made) c.loop-made.steps c.loop-made.self (held c.loop-made.line) (held c.loop-made.flight) (sym c.if-is_idle.ensures)) ∙ inv.2;
       ordered = inv.1;
-      grown = run_grown m c.args.depth c.args.budget c.args.self.now c.loop-made.self _ _ _ _ _ (sym (idle_state m c.args.depth (c.args.budget - c.loop-made.-made) c.loop-made.steps c.loop-made.self (held c.loop-made.line) (held c.loop-made.flight) (sym c.if-is-idle.ensures)) ∙ inv.2);
+      grown = run_grown m c.args.depth c.args.budget c.args.self.now c.loop-made.self _ _ _ _ _ (sym (idle_state m c.args.depth (c.args.budget - c.loop-made.-made) c.loop-made.steps c.loop-made.self (held c.loop-made.line) (held c.loop-made.flight) (sym c.if-is_idle.ensures)) ∙ inv.2);
     }

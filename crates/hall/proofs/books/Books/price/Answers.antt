@@ -4,17 +4,17 @@ use Rattle.hall.proofs.Tables.{shut_tally}
 use Rattle.hall.proofs.Questions.{known_job, price_past, price_told}
 use Rattle.hall.proofs.books.Books.price.Goals as goal
 
-pub returns-then-not-is-open : goal.returns-then-not-is-open
-returns-then-not-is-open g c =
+pub returns-then-not-is_open : goal.returns-then-not-is_open
+returns-then-not-is_open g c =
     let m = g.S.Source.meaning c.args.source.now in
-    sym (ap (price_answer c.args.job m) (shut_tally m c.args.self.now (sym c.if-not-is-open.ensures)))
+    sym (ap (price_answer c.args.job m) (shut_tally m c.args.self.now (sym c.if-not-is_open.ensures)))
 
 pub returns-then-job-self : goal.returns-then-job-self
 returns-then-job-self g c =
-    price_past (g.S.Source.meaning c.args.source.now) c.args.self.now (sym c.if-not-is-open.ensures) c.args.job c.if-job-self.true
+    price_past (g.S.Source.meaning c.args.source.now) c.args.self.now (sym c.if-not-is_open.ensures) c.args.job c.if-job-self.true
 
-pub offset-bounds-self-job : goal.offset-bounds-self-job
-offset-bounds-self-job g c =
+pub offset_bounds-self-job : goal.offset_bounds-self-job
+offset_bounds-self-job g c =
     let l : c.args.job < 256 = known_job c.args.self.now c.args.job c.if-job-self.false in
     search rules
 
@@ -23,4 +23,4 @@ bounds-self-job g c = known_job c.args.self.now c.args.job c.if-job-self.false
 
 pub returns : goal.returns
 returns g c =
-    price_told (g.S.Source.meaning c.args.source.now) c.args.self.now (sym c.if-not-is-open.ensures) c.args.job c.if-job-self.false
+    price_told (g.S.Source.meaning c.args.source.now) c.args.self.now (sym c.if-not-is_open.ensures) c.args.job c.if-job-self.false

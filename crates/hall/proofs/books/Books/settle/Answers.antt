@@ -5,29 +5,29 @@ use Rattle.hall.proofs.books.Books.settle.Goals as goal
 
 pub judge-verdict-requires : goal.judge-verdict-requires
 judge-verdict-requires g c = record {
-  low_step = (consistent_in c.call-on.new.self).limits.low_step;
-  sound = settles_sound (g.S.Source.meaning c.args.source.now) c.args.carrier c.in-ok-bid.bid c.args.self.now c.call-on.new.self
-      c.in-ok-bid.ensures.answered c.in-ok-bid.ensures.tallied;
+  low_step = (consistent_in c.call_on.new.self).limits.low_step;
+  sound = settles_sound (g.S.Source.meaning c.args.source.now) c.args.carrier c.in_ok-bid.bid c.args.self.now c.call_on.new.self
+      c.in_ok-bid.ensures.answered c.in_ok-bid.ensures.tallied;
 }
 
-pub carry-out-requires : goal.carry-out-requires
-carry-out-requires g c = record {
-  known = settles_known (g.S.Source.meaning c.args.source.now) c.args.carrier c.in-ok-bid.bid c.args.self.now c.call-on.new.self
-      c.in-ok-bid.ensures.answered c.in-ok-bid.ensures.tallied;
-  bidding = settles_bidding (g.S.Source.meaning c.args.source.now) c.args.carrier c.in-ok-bid.bid c.args.self.now c.call-on.new.self
-      c.in-ok-bid.ensures.answered c.in-ok-bid.ensures.tallied;
-  ruled = settles_ruled (g.S.Source.meaning c.args.source.now) c.args.carrier c.in-ok-bid.bid c.args.self.now c.call-on.new.self
-      c.in-ok-bid.ensures.answered c.in-ok-bid.ensures.tallied c.judge-verdict.result c.judge-verdict.ensures;
+pub carry_out-requires : goal.carry_out-requires
+carry_out-requires g c = record {
+  known = settles_known (g.S.Source.meaning c.args.source.now) c.args.carrier c.in_ok-bid.bid c.args.self.now c.call_on.new.self
+      c.in_ok-bid.ensures.answered c.in_ok-bid.ensures.tallied;
+  bidding = settles_bidding (g.S.Source.meaning c.args.source.now) c.args.carrier c.in_ok-bid.bid c.args.self.now c.call_on.new.self
+      c.in_ok-bid.ensures.answered c.in_ok-bid.ensures.tallied;
+  ruled = settles_ruled (g.S.Source.meaning c.args.source.now) c.args.carrier c.in_ok-bid.bid c.args.self.now c.call_on.new.self
+      c.in_ok-bid.ensures.answered c.in_ok-bid.ensures.tallied c.judge-verdict.result c.judge-verdict.ensures;
 }
 
 pub returns : goal.returns
 returns g c = record {
-  answered = settled_answer (g.S.Source.meaning c.args.source.now) c.args.carrier c.in-ok-bid.bid c.args.self.now c.call-on.new.self
-      c.in-ok-bid.ensures.answered c.in-ok-bid.ensures.tallied c.judge-verdict.result c.judge-verdict.ensures;
-  tallied = settled_tally (g.S.Source.meaning c.args.source.now) c.args.carrier c.in-ok-bid.bid c.args.self.now c.call-on.new.self
-      c.in-ok-bid.ensures.answered c.in-ok-bid.ensures.tallied c.judge-verdict.result c.judge-verdict.ensures
-      c.carry-out.new.self
-      (record { started_is = c.carry-out.ensures.noted.started_is; carriers_is = c.carry-out.ensures.noted.carriers_is; jobs_is = c.carry-out.ensures.noted.jobs_is; ceiling_is = c.carry-out.ensures.noted.ceiling_is })
-      c.carry-out.ensures.tallied;
+  answered = settled_answer (g.S.Source.meaning c.args.source.now) c.args.carrier c.in_ok-bid.bid c.args.self.now c.call_on.new.self
+      c.in_ok-bid.ensures.answered c.in_ok-bid.ensures.tallied c.judge-verdict.result c.judge-verdict.ensures;
+  tallied = settled_tally (g.S.Source.meaning c.args.source.now) c.args.carrier c.in_ok-bid.bid c.args.self.now c.call_on.new.self
+      c.in_ok-bid.ensures.answered c.in_ok-bid.ensures.tallied c.judge-verdict.result c.judge-verdict.ensures
+      c.carry_out.new.self
+      (record { started_is = c.carry_out.ensures.noted.started_is; carriers_is = c.carry_out.ensures.noted.carriers_is; jobs_is = c.carry_out.ensures.noted.jobs_is; ceiling_is = c.carry_out.ensures.noted.ceiling_is })
+      c.carry_out.ensures.tallied;
   refused = search rules;
 }

@@ -7,7 +7,7 @@ use Rattle.hall.proofs.books.Books.start.Goals as goal
 pub invariant-of-self : goal.invariant-of-self
 invariant-of-self g c =
     let m = g.S.Source.meaning c.args.source.now in
-    let ok : start_answer c.args.step c.args.lanes m ≡ Ok tt = sym c.in-ok-check-start.ensures in (
+    let ok : start_answer c.args.step c.args.lanes m ≡ Ok tt = sym c.in_ok-check_start.ensures in (
       ∣ opened_keeps _ _ _ _ _
           (limits_at m _ _ _ c.args.step c.args.lanes c.carriers-self.ensures c.jobs-self.ensures c.ceiling-self.ensures (limits_from_ok m c.args.step c.args.lanes ok)) ∣₁,
       tt,
@@ -16,6 +16,6 @@ invariant-of-self g c =
 pub returns : goal.returns
 returns g c = record {
   answered = search rules;
-  tallied = opened_tally _ _ _ _ _ refl c.carriers-self.ensures c.jobs-self.ensures c.ceiling-self.ensures refl refl refl refl refl refl (sym c.in-ok-check-start.ensures);
+  tallied = opened_tally _ _ _ _ _ refl c.carriers-self.ensures c.jobs-self.ensures c.ceiling-self.ensures refl refl refl refl refl refl (sym c.in_ok-check_start.ensures);
   refused = search rules;
 }

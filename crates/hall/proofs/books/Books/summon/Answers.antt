@@ -4,7 +4,7 @@ use Rattle.hall.proofs.books.Books.summon.Goals as goal
 
 pub returns : goal.returns
 returns g c = record {
-  answered = ap done c.in-ok-call-on.ensures.answered;
-  tallied = c.in-ok-call-on.ensures.tallied;
+  answered = ap done c.in_ok-call_on.ensures.answered;
+  tallied = c.in_ok-call_on.ensures.tallied;
   refused = search rules;
 }

@@ -7,8 +7,8 @@ use Rattle.sources.proofs.Reading.{entry_some, entry_none, entry_known, entry_wi
 use Rattle.hall.proofs.Entries.{nth_below, weighed_cut, fold_step, fold_done, fold_past}
 use Rattle.hall.proofs.books.calls.look_on.Goals as goal
 
-pub offset-bounds-prices-job : goal.offset-bounds-prices-job
-offset-bounds-prices-job g c =
+pub offset_bounds-prices-job : goal.offset_bounds-prices-job
+offset_bounds-prices-job g c =
     let m = g.S.Source.meaning c.args.source.now in
     let s = entry_some m c.args.carrier c.loop-lane.bid.looked (c.in-Some.job, c.in-Some.worth) c.in-Some.ensures in
     let k : c.in-Some.job < 256 = omega (arith, entry_known m (g.S.Source.sound c.args.source.now) c.args.carrier c.loop-lane.bid.looked c.in-Some.job c.in-Some.worth c.in-Some.ensures, c.requires.few_jobs) in

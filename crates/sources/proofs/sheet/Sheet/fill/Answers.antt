@@ -4,8 +4,8 @@ use Rattle.sources.specs.Sheets.{sheet_of}
 use Rattle.sources.proofs.Tables.{fills_exactly}
 use Rattle.sources.proofs.sheet.Sheet.fill.Goals as goal
 
-pub returns-in-err-verdict : goal.returns-in-err-verdict
-returns-in-err-verdict c = record {
+pub returns-in_err-verdict : goal.returns-in_err-verdict
+returns-in_err-verdict c = record {
   verdict = search rules;
   means = search rules;
   kept = search rules;

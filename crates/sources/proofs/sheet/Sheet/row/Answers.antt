@@ -4,24 +4,24 @@ use Rattle.sources.specs.Laws.Indexed.{nth_made, nth_not_made}
 use Rattle.sources.specs.Laws.Starts.{started, below}
 use Rattle.sources.proofs.sheet.Sheet.row.Goals as goal
 
-pub offset-bounds-self-self : goal.offset-bounds-self-self
-offset-bounds-self-self c =
+pub offset_bounds-self-self : goal.offset_bounds-self-self
+offset_bounds-self-self c =
     let s = c.args.self.now in
     let b : get_or s.starts.now c.args.carrier 0 ≤ length s.entries.now = below s.heading s.starts.now (length s.entries.now) (started _ _ _ s.started) c.args.carrier (omega arith) in
     search rules
 
-pub slice-bounds-result-count : goal.slice-bounds-result-count
-slice-bounds-result-count c =
+pub slice_bounds-result-count : goal.slice_bounds-result-count
+slice_bounds-result-count c =
     let s = c.args.self.now in
     (started s.heading s.starts.now (length s.entries.now) s.started).rises c.args.carrier c.if-carrier-self.true
 
-pub slice-bounds-result-start : goal.slice-bounds-result-start
-slice-bounds-result-start c =
+pub slice_bounds-result-start : goal.slice_bounds-result-start
+slice_bounds-result-start c =
     let s = c.args.self.now in
     (started s.heading s.starts.now (length s.entries.now) s.started).rises c.args.carrier c.if-carrier-self.true
 
-pub slice-bounds-result-end : goal.slice-bounds-result-end
-slice-bounds-result-end c =
+pub slice_bounds-result-end : goal.slice_bounds-result-end
+slice_bounds-result-end c =
     let s = c.args.self.now in
     below s.heading s.starts.now (length s.entries.now) (started s.heading s.starts.now (length s.entries.now) s.started) _ (omega arith)
 

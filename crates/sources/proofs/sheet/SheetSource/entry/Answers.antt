@@ -5,24 +5,24 @@ use Rattle.sources.specs.Sheets.{sheet_rows, pair_of}
 use Rattle.sources.specs.Laws.SheetSound.{reads_entry}
 use Rattle.sources.proofs.sheet.SheetSource.entry.Goals as goal
 
-pub returns-in-err-row : goal.returns-in-err-row
-returns-in-err-row c =
+pub returns-in_err-row : goal.returns-in_err-row
+returns-in_err-row c =
     let s = c.args.self.now in
-    c.from-residual.ensures ∙ reads_entry (sheet_rows s.heading s.starts.now s.entries.now) c.args.carrier c.args.index None c.in-err-row.ensures
+    c.from_residual.ensures ∙ reads_entry (sheet_rows s.heading s.starts.now s.entries.now) c.args.carrier c.args.index None c.in_err-row.ensures
 
-pub returns-in-err-entry : goal.returns-in-err-entry
-returns-in-err-entry c =
+pub returns-in_err-entry : goal.returns-in_err-entry
+returns-in_err-entry c =
     let s = c.args.self.now in
-    let row = c.in-ok-row.field-0.now in
-    c.from-residual-in-err-entry.ensures
-    ∙ ap (option_map pair_of) (sym (slice_get_past row c.args.index c.in-err-entry.ensures.finds.3))
-    ∙ reads_entry (sheet_rows s.heading s.starts.now s.entries.now) c.args.carrier c.args.index (Some row) c.in-ok-row.ensures
+    let row = c.in_ok-row.field-0.now in
+    c.from_residual-in_err-entry.ensures
+    ∙ ap (option_map pair_of) (sym (slice_get_past row c.args.index c.in_err-entry.ensures.lookup.3))
+    ∙ reads_entry (sheet_rows s.heading s.starts.now s.entries.now) c.args.carrier c.args.index (Some row) c.in_ok-row.ensures
 
 pub returns : goal.returns
 returns c =
     let s = c.args.self.now in
-    let row = c.in-ok-row.field-0.now in
-    let e = c.in-ok-entry.entry.now in
-    let f = c.in-ok-entry.ensures.finds in
+    let row = c.in_ok-row.field-0.now in
+    let e = c.in_ok-entry.entry.now in
+    let f = c.in_ok-entry.ensures.lookup in
     ap (option_map pair_of) (ap Some (f.3.1 e) ∙ sym (slice_get-get_or row c.args.index e f.3.0))
-    ∙ reads_entry (sheet_rows s.heading s.starts.now s.entries.now) c.args.carrier c.args.index (Some row) c.in-ok-row.ensures
+    ∙ reads_entry (sheet_rows s.heading s.starts.now s.entries.now) c.args.carrier c.args.index (Some row) c.in_ok-row.ensures
