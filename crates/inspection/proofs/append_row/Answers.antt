@@ -34,7 +34,7 @@ pub returns : goal.returns
 returns g c =
     let m = g.S.Source.meaning c.args.source.now in
     let row = row_of m c.args.carrier in
-    let past = entry_past m c.args.carrier c.loop-job.count c.in-default.ensures in
+    let past = entry_past m c.args.carrier c.loop-job.count c.in_default.ensures in
     let all = ap (flat_map entry_text) (take_all c.loop-job.count row past) in
     let text = string_bytes c.args.text.now in
     let front = decimal c.args.carrier ++ codes ":" in (

@@ -4,7 +4,7 @@ use Rattle.sources.proofs.Reading.{row_len_some, row_len_none, row_rising, entry
 use Rattle.rows.specs.Totals.{BestIn}
 use Rattle.rows.proofs.Entries.{never_none, BestOfFirst, best_of_none, takes, keeps, best_is, no_best, no_row_no_best}
 use Rattle.rows.proofs.best_entry.Goals as goal
-use Rattle.rows.proofs.best_entry.Goals.{in-Some+then-worth-best, in-Some+else-worth-best, in-default}
+use Rattle.rows.proofs.best_entry.Goals.{in-Some+then-worth-best, in-Some+else-worth-best, in_default}
 
 pub returns-in_err-len : goal.returns-in_err-len
 returns-in_err-len g c =
@@ -32,7 +32,7 @@ loop-k-preserved g c =
           subst (λ (b : ℕ × ℕ). BestOfFirst (row_of m i) (k + 1) b.0 b.1) (sym w.best-is)
           (keeps (row_of m i) k best.0 best.1 at.job at.worth (omega (arith, long)) (entry_read m i k (at.job, at.worth) at.ensures) c.loop-k.invariant
           (row_rising m (g.S.Source.sound c.args.source.now) i) w.if-worth-best.false)
-      | in-default w ↦ absurd (never_none m i c.in_ok-len.len k c.in_ok-len.ensures c.loop-k-test.true w.in-default.ensures)
+      | in_default w ↦ absurd (never_none m i c.in_ok-len.len k c.in_ok-len.ensures c.loop-k-test.true w.in_default.ensures)
     ]
 
 pub returns-then-best-gt0 : goal.returns-then-best-gt0

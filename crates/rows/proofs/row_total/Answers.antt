@@ -6,7 +6,7 @@ use Rattle.sources.proofs.Reading.{row_len_some, row_there, entry_read, entry_wi
 use Rattle.rows.specs.Totals.{worths}
 use Rattle.rows.proofs.Entries.{never_none, one_more}
 use Rattle.rows.proofs.row_total.Goals as goal
-use Rattle.rows.proofs.row_total.Goals.{in-Some, in-default}
+use Rattle.rows.proofs.row_total.Goals.{in-Some, in_default}
 
 pub loop-k-preserved : goal.loop-k-preserved
 loop-k-preserved g c =
@@ -21,7 +21,7 @@ loop-k-preserved g c =
           let more = one_more (row_of m i) k at.field-0-0 at.worth (omega (arith, row_len_some m i c.in_ok-len.len c.in_ok-len.ensures))
           (entry_read m i k (at.field-0-0, at.worth) at.ensures) c.loop-k.total c.loop-k.invariant.0 in
           (w.total-is ∙ ap (λ n. c.loop-k.total + n) w.from-total.ensures ∙ more, omega (arith, top, sound.small))
-      | in-default w ↦ absurd (never_none m i c.in_ok-len.len k c.in_ok-len.ensures c.loop-k-test.true w.in-default.ensures)
+      | in_default w ↦ absurd (never_none m i c.in_ok-len.len k c.in_ok-len.ensures c.loop-k-test.true w.in_default.ensures)
     ]
 
 pub returns : goal.returns

@@ -3,12 +3,12 @@ use Rattle.sources.specs.Meaning.{row_of, worth_in}
 use Rattle.sources.proofs.Reading.{row_len_some, row_len_none, entry_read}
 use Rattle.rows.proofs.Entries.{never_none, found, passed, not_found}
 use Rattle.rows.proofs.worth_of.Goals as goal
-use Rattle.rows.proofs.worth_of.Goals.{in-Some-entry+else-found-job, in-default-entry}
+use Rattle.rows.proofs.worth_of.Goals.{in-Some-entry+else-found-job, in_default-entry}
 
-pub returns-in-default : goal.returns-in-default
-returns-in-default g c =
+pub returns-in_default : goal.returns-in_default
+returns-in_default g c =
     let m = g.S.Source.meaning c.args.source.now in
-    sym (ap (λ row. worth_in row c.args.job) (row_len_none m c.args.carrier c.in-default.ensures))
+    sym (ap (λ row. worth_in row c.args.job) (row_len_none m c.args.carrier c.in_default.ensures))
 
 pub loop-k-init : goal.loop-k-init
 loop-k-init g c = refl
@@ -28,7 +28,7 @@ loop-k-preserved g c =
           let at = w.in-Some-entry in
           passed (row_of m c.args.carrier) c.loop-k.k at.found at.worth (omega (arith, row_len_some m c.args.carrier c.in-Some.len c.in-Some.ensures))
           (entry_read m c.args.carrier c.loop-k.k (at.found, at.worth) at.ensures) c.args.job c.loop-k.invariant w.if-found-job.false
-      | in-default-entry w ↦ absurd (never_none m c.args.carrier c.in-Some.len c.loop-k.k c.in-Some.ensures c.loop-k-test.true w.in-default-entry.ensures)
+      | in_default-entry w ↦ absurd (never_none m c.args.carrier c.in-Some.len c.loop-k.k c.in-Some.ensures c.loop-k-test.true w.in_default-entry.ensures)
     ]
 
 pub returns : goal.returns

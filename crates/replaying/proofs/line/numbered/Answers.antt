@@ -2,8 +2,8 @@ use Rattle.std.proofs.Common.{refl, ◌∙◌, arith}
 use Rattle.replaying.proofs.Words.{said_many, said_no_first, said_no_second, said_one, said_two}
 use Rattle.replaying.proofs.line.numbered.Goals as goal
 
-pub returns-in-default : goal.returns-in-default
-returns-in-default c = said_no_first c.args.rest.now c.first_len-first.result c.first_len-first.ensures.value c.args.word.now c.in-default.ensures
+pub returns-in_default : goal.returns-in_default
+returns-in_default c = said_no_first c.args.rest.now c.first_len-first.result c.first_len-first.ensures.value c.args.word.now c.in_default.ensures
 
 pub returns-then-first-rest : goal.returns-then-first-rest
 returns-then-first-rest c =

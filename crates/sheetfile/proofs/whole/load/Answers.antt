@@ -29,14 +29,14 @@ loop-i-init c =
 pub returns-in_err-read_row : goal.returns-in_err-read_row
 returns-in_err-read_row c =
     let l = c.loop-i in
-    let v = accepted c.args.bytes.now c.read_heading.new.starts c.args.entries.now c.in_ok-heading.heading.carriers l.-i l.loader l.starts l.entries l.invariant l.auto.starts l.auto.entries c.loop-i-test.true in
+    let v = accepted c.args.bytes.now c.read_heading.new.starts c.args.entries.now c.in_ok-heading.heading.carriers l._i l.loader l.starts l.entries l.invariant l.auto.starts l.auto.entries c.loop-i-test.true in
     err_not_ok c.in_err-read_row.field-0.0 tt (c.in_err-read_row.ensures.answer ∙ ap without_value v)
 
 pub loop-i-preserved : goal.loop-i-preserved
 loop-i-preserved c =
     let l = c.loop-i in
     let r = c.read_row in
-    underway_next c.args.bytes.now c.read_heading.new.starts c.args.entries.now c.in_ok-heading.heading.carriers l.-i l.loader l.starts l.entries l.invariant l.auto.starts l.auto.entries c.loop-i-test.true
+    underway_next c.args.bytes.now c.read_heading.new.starts c.args.entries.now c.in_ok-heading.heading.carriers l._i l.loader l.starts l.entries l.invariant l.auto.starts l.auto.entries c.loop-i-test.true
     r.new.self r.new.starts r.new.entries r.ensures.loader r.ensures.starts r.ensures.entries
 
 pub returns-in-Ok-close : goal.returns-in-Ok-close
@@ -47,8 +47,8 @@ returns-in-Ok-close c =
     let some : 0 < length c.args.starts.now = omega (arith, l.invariant.long, len) in
     let whole : loaded c.args.bytes.now (length c.args.starts.now) (length c.args.entries.now) ≡ Ok (meaning_of c.loop-i.loader.heading c.loop-i.invariant.all) = ap (λ n. loaded c.args.bytes.now n (length c.args.entries.now)) (sym len) ∙ l.invariant.whole in
     let v = loaded c.args.bytes.now (length c.args.starts.now) (length c.args.entries.now) in
-    let ss = starts_done c.args.bytes.now c.read_heading.new.starts c.args.entries.now c.in_ok-heading.heading.carriers l.-i l.loader l.starts l.entries l.invariant l.auto.starts l.auto.entries c.loop-i-test.false in
-    let es = entries_done c.args.bytes.now c.read_heading.new.starts c.args.entries.now c.in_ok-heading.heading.carriers l.-i l.loader l.starts l.entries l.invariant l.auto.starts l.auto.entries c.loop-i-test.false in
+    let ss = starts_done c.args.bytes.now c.read_heading.new.starts c.args.entries.now c.in_ok-heading.heading.carriers l._i l.loader l.starts l.entries l.invariant l.auto.starts l.auto.entries c.loop-i-test.false in
+    let es = entries_done c.args.bytes.now c.read_heading.new.starts c.args.entries.now c.in_ok-heading.heading.carriers l._i l.loader l.starts l.entries l.invariant l.auto.starts l.auto.entries c.loop-i-test.false in
     let x : Meaning = meaning_of c.loop-i.loader.heading c.loop-i.invariant.all in
     let told = ap (λ (z : Heading). Ok z) (c.heading.ensures ∙ closed_ok c.loop-i.loader (closing c.loop-i.loader) c.in-Ok-close.closed c.in-Ok-close.ensures) ∙ sym (ap heading_answer whole) in
     let ss' = ss ∙ ap (λ z. over z 1 (ends_of 0 c.loop-i.invariant.all)) put ∙ over-set c.args.starts.now 0 0 (ends_of 0 l.invariant.all) some ∙ updated_ok v x c.args.starts.now (λ m. over c.args.starts.now 0 (starts_of m.rows)) whole in
@@ -63,7 +63,7 @@ returns-in-Ok-close c =
 pub returns-in-Err-close : goal.returns-in-Err-close
 returns-in-Err-close c =
     let l = c.loop-i in
-    let closes = closes_now c.args.bytes.now c.read_heading.new.starts c.args.entries.now c.in_ok-heading.heading.carriers l.-i l.loader l.starts l.entries l.invariant l.auto.starts l.auto.entries c.loop-i-test.false in
+    let closes = closes_now c.args.bytes.now c.read_heading.new.starts c.args.entries.now c.in_ok-heading.heading.carriers l._i l.loader l.starts l.entries l.invariant l.auto.starts l.auto.entries c.loop-i-test.false in
     err_not_ok c.in-Err-close.back.fault tt (sym (closed_err c.loop-i.loader (closing c.loop-i.loader) c.in-Err-close.back c.in-Err-close.ensures) ∙ closes)
 
 pub returns-in_err-heading : goal.returns-in_err-heading

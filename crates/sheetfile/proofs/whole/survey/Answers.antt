@@ -19,7 +19,7 @@ returns-in_err-count c =
     let l = c.loop-i in
     let h = c.in_ok-heading.heading in
     let e = count_err (row_in c.args.bytes.now c.in_ok-heading.heading c.args.room l.used l.at) c.in_err-count.field-0.0 c.in_err-count.ensures in
-    let f = rows_fault c.args.bytes.now h c.args.room (c.in_ok-heading.heading.carriers - c.loop-i.-i) l.used l.at c.in_err-count.field-0.0 (omega arith) e in
+    let f = rows_fault c.args.bytes.now h c.args.room (c.in_ok-heading.heading.carriers - c.loop-i._i) l.used l.at c.in_err-count.field-0.0 (omega arith) e in
     rw (p.1, p.2) (sym (ap heading_answer (load_headed c.args.bytes.now c.args.starts c.args.room h c.in_ok-heading.at (Err c.in_err-count.field-0.0) (sym c.in_ok-heading.ensures) (l.invariant.3 ∙ ap (prefixed l.invariant.0) f))))
 
 pub loop-i-init : goal.loop-i-init
@@ -40,19 +40,19 @@ loop-i-preserved c =
       l.invariant.0 ++ s.0 ∷ [],
       omega (arith, entries_push l.invariant.0 s.0, s.2, l.invariant.1),
       omega (arith, f.1, s.2),
-      row_more c.args.bytes.now c.in_ok-heading.heading c.args.room c.in_ok-heading.heading.carriers c.loop-i.-i l.used l.at s.0 c.in_ok-count.next l.invariant.0 _ (omega arith) s.1 l.invariant.3
-          ∙ ap (λ n. prefixed (c.loop-i.invariant.0 ++ s.0 ∷ []) (rows_from c.args.bytes.now c.in_ok-heading.heading c.args.room (c.in_ok-heading.heading.carriers - (c.loop-i.-i + 1)) (c.loop-i.used + n) c.in_ok-count.next)) s.2,
+      row_more c.args.bytes.now c.in_ok-heading.heading c.args.room c.in_ok-heading.heading.carriers c.loop-i._i l.used l.at s.0 c.in_ok-count.next l.invariant.0 _ (omega arith) s.1 l.invariant.3
+          ∙ ap (λ n. prefixed (c.loop-i.invariant.0 ++ s.0 ∷ []) (rows_from c.args.bytes.now c.in_ok-heading.heading c.args.room (c.in_ok-heading.heading.carriers - (c.loop-i._i + 1)) (c.loop-i.used + n) c.in_ok-count.next)) s.2,
     )
 
 pub returns-in_err-total_at : goal.returns-in_err-total_at
 returns-in_err-total_at c =
     let p = err_from_is_err_and c.from_residual-in_err-total_at.result c.from_residual-in_err-total_at.ensures.1 in
     let l = c.loop-i in
-    rw (p.1, p.2) (sym (ap heading_answer (load_closed c.args.bytes.now c.args.starts c.args.room c.in_ok-heading.heading c.in_ok-heading.at (c.in_ok-heading.heading.carriers - c.loop-i.-i) l.used l.at l.invariant.0
+    rw (p.1, p.2) (sym (ap heading_answer (load_closed c.args.bytes.now c.args.starts c.args.room c.in_ok-heading.heading c.in_ok-heading.at (c.in_ok-heading.heading.carriers - c.loop-i._i) l.used l.at l.invariant.0
     (Err c.in_err-total_at.field-0.0) (sym c.in_ok-heading.ensures) l.invariant.3 (omega arith) l.invariant.1 (sym c.in_err-total_at.ensures))))
 
 pub returns : goal.returns
 returns c =
     let l = c.loop-i in
-    sym (ap heading_answer (load_closed c.args.bytes.now c.args.starts c.args.room c.in_ok-heading.heading c.in_ok-heading.at (c.in_ok-heading.heading.carriers - c.loop-i.-i) l.used l.at l.invariant.0
+    sym (ap heading_answer (load_closed c.args.bytes.now c.args.starts c.args.room c.in_ok-heading.heading c.in_ok-heading.at (c.in_ok-heading.heading.carriers - c.loop-i._i) l.used l.at l.invariant.0
     (Ok c.in_ok-total_at.field-0) (sym c.in_ok-heading.ensures) l.invariant.3 (omega arith) l.invariant.1 (sym c.in_ok-total_at.ensures)))

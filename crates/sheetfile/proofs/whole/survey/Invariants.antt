@@ -8,4 +8,4 @@ use Rattle.sheetfile.proofs.whole.survey.Given as goal
 abbrev pub invariant-loop-i : goal.invariant-loop-i
 invariant-loop-i l =
     (done : List Row) × (l.used ≡ entries_in done) × (l.used ≤ l.room)
-    × (rows_from l.bytes l.heading l.room l.heading.carriers 0 l.initial.at ≡ prefixed done (rows_from l.bytes l.heading l.room (l.heading.carriers - l.-i) l.used l.at))
+    × (rows_from l.bytes l.heading l.room l.heading.carriers 0 l.initial.at ≡ prefixed done (rows_from l.bytes l.heading l.room (l.heading.carriers - l._i) l.used l.at))

@@ -33,27 +33,27 @@ returns-in-Some g c =
       flight_size = refl;
     }
 
-pub returns-in-default-waits_after : goal.returns-in-default-waits_after
-returns-in-default-waits_after g c =
+pub returns-in_default-waits_after : goal.returns-in_default-waits_after
+returns-in_default-waits_after g c =
     let m = g.S.Source.meaning c.args.source.now in
     let i = c.args.first.carrier in
     let a = after_call m c.args.self.now c.settle.new.self (settled m i) c.requires.open c.in-Ok.ensures.tallied in
     record {
       became = first_settled m c.args.self.now c.settle.new.self i c.args.first.looks_left (held c.args.line.now) (held c.args.line.now) (held c.args.flight.now)
           (Ok c.in-Ok.verdict) (omega arith) a.0 a.1 c.requires.open c.in-Ok.ensures.answered
-          (waits_told i c.in-Ok.verdict None (held c.args.line.now) (held c.args.line.now) c.in-default-waits_after.ensures (sym (append-nil (held c.args.line.now))));
+          (waits_told i c.in-Ok.verdict None (held c.args.line.now) (held c.args.line.now) c.in_default-waits_after.ensures (sym (append-nil (held c.args.line.now))));
       line_size = refl;
       flight_size = refl;
     }
 
-pub returns-in-default : goal.returns-in-default
-returns-in-default g c =
+pub returns-in_default : goal.returns-in_default
+returns-in_default g c =
     let m = g.S.Source.meaning c.args.source.now in
     let i = c.args.first.carrier in
-    let a = after_call m c.args.self.now c.settle.new.self (settled m i) c.requires.open c.in-default.ensures.tallied in
+    let a = after_call m c.args.self.now c.settle.new.self (settled m i) c.requires.open c.in_default.ensures.tallied in
     record {
       became = first_settled m c.args.self.now c.settle.new.self i c.args.first.looks_left (held c.args.line.now) (held c.args.line.now) (held c.args.flight.now)
-          (Err c.in-default.field-0) (omega arith) a.0 a.1 c.requires.open c.in-default.ensures.answered (sym (append-nil (held c.args.line.now)));
+          (Err c.in_default.field-0) (omega arith) a.0 a.1 c.requires.open c.in_default.ensures.answered (sym (append-nil (held c.args.line.now)));
       line_size = refl;
       flight_size = refl;
     }

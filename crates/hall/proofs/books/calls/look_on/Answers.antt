@@ -39,8 +39,8 @@ loop-lane-preserved g c =
     let e : c.weighed-bid.result ≡ weighed ps c.loop-lane.bid (c.in-Some.job, c.in-Some.worth) =
     c.weighed-bid.ensures ∙ weighed_cut m.jobs c.args.prices.now c.loop-lane.bid c.in-Some.job c.in-Some.worth
     (entry_known m (g.S.Source.sound c.args.source.now) c.args.carrier c.loop-lane.bid.looked c.in-Some.job c.in-Some.worth c.in-Some.ensures) in
-    ap (λ b. fold (weighed ps) b (take (c.args.lanes - (c.loop-lane.-lane + 1)) (drop b.looked row))) e
-    ∙ fold_step ps row c.loop-lane.bid c.loop-lane.-lane c.args.lanes (c.in-Some.job, c.in-Some.worth) c.loop-lane-test.true s
+    ap (λ b. fold (weighed ps) b (take (c.args.lanes - (c.loop-lane._lane + 1)) (drop b.looked row))) e
+    ∙ fold_step ps row c.loop-lane.bid c.loop-lane._lane c.args.lanes (c.in-Some.job, c.in-Some.worth) c.loop-lane-test.true s
     ∙ c.loop-lane.invariant
 
 pub returns-after-loop-lane : goal.returns-after-loop-lane
@@ -48,13 +48,13 @@ returns-after-loop-lane g c =
     let m = g.S.Source.meaning c.args.source.now in
     let ps = take m.jobs c.args.prices.now in
     let row = row_of m c.args.carrier in
-    let e : c.loop-lane.-lane ≡ c.args.lanes = omega arith in
+    let e : c.loop-lane._lane ≡ c.args.lanes = omega arith in
     sym (fold_done ps row c.loop-lane.bid c.args.lanes)
     ∙ sym (ap (λ k. fold (weighed ps) c.loop-lane.bid (take (c.args.lanes - k) (drop c.loop-lane.bid.looked row))) e)
     ∙ c.loop-lane.invariant
 
-pub returns-in-default : goal.returns-in-default
-returns-in-default g c =
+pub returns-in_default : goal.returns-in_default
+returns-in_default g c =
     let m = g.S.Source.meaning c.args.source.now in
-    let s = entry_none m c.args.carrier c.loop-lane.bid.looked c.in-default.ensures in
+    let s = entry_none m c.args.carrier c.loop-lane.bid.looked c.in_default.ensures in
     sym (fold_past (take m.jobs c.args.prices.now) (row_of m c.args.carrier) c.loop-lane.bid _ s) ∙ c.loop-lane.invariant
