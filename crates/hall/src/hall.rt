@@ -29,7 +29,7 @@ impl<S: Source> Hall<S> {
     // A hall that was never started.
     pub fn new(source: S) -> Self
         ensures kept { result.source ≡ source }
-        ensures tallied { tally_of (meaning source) result.books ≡ None }
+        ensures tallied { tally_of (S.meaning source) result.books ≡ None }
     {
         Hall {
             source,
@@ -40,7 +40,7 @@ impl<S: Source> Hall<S> {
     // Sets every price to 0, every carrier to waiting and every count to 0, also when an auction is under way.
     // Refused, in this order: counts of the source outside the limits, step outside 1 to 2^36, lanes outside 1 to 32.
     pub fn start(&mut self, step: u64, lanes: usize) -> Result<(), Refusal>
-        ensures ruled { Ruled (λ m _. start_answer step lanes m) (start_tally step lanes) (meaning self.old.source) self.old.books self.new.books result }
+        ensures ruled { Ruled (λ m _. start_answer step lanes m) (start_tally step lanes) (S.meaning self.old.source) self.old.books self.new.books result }
         ensures kept { self.new.source ≡ self.old.source }
     {
         self.books.start(&self.source, step, lanes)
@@ -49,7 +49,7 @@ impl<S: Source> Hall<S> {
     // Makes a waiting carrier bidding, with nothing looked at.
     // Refused, in this order: never started, carrier number too large, not waiting.
     pub fn summon(&mut self, carrier: usize) -> Result<(), Refusal>
-        ensures ruled { Ruled (summon_answer carrier) (summon_tally carrier) (meaning self.old.source) self.old.books self.new.books result }
+        ensures ruled { Ruled (summon_answer carrier) (summon_tally carrier) (S.meaning self.old.source) self.old.books self.new.books result }
         ensures kept { self.new.source ≡ self.old.source }
     {
         self.books.summon(&self.source, carrier)
@@ -58,8 +58,8 @@ impl<S: Source> Hall<S> {
     // Takes the next lanes entries of a bidding carrier's row, or as many as are left, at the prices now.
     // Refused, in this order: never started, carrier number too large, no open bid, row fully looked at.
     pub fn look(&mut self, carrier: usize) -> Result<(), Refusal>
-        ensures ruled { Ruled (look_answer carrier) (look_tally carrier) (meaning self.old.source) self.old.books self.new.books result }
-        ensures looks { OnOk result (Looks (meaning self.old.source) carrier (tally_in self.old.books) (tally_in self.new.books)) }
+        ensures ruled { Ruled (look_answer carrier) (look_tally carrier) (S.meaning self.old.source) self.old.books self.new.books result }
+        ensures looks { OnOk result (Looks (S.meaning self.old.source) carrier (tally_in self.old.books) (tally_in self.new.books)) }
         ensures kept { self.new.source ≡ self.old.source }
     {
         self.books.look(&self.source, carrier)
@@ -68,7 +68,7 @@ impl<S: Source> Hall<S> {
     // Ends a bid whose row is fully looked at: out, stale or awarded.
     // Refused, in this order: never started, carrier number too large, no open bid, entries not looked at.
     pub fn settle(&mut self, carrier: usize) -> Result<Verdict, Refusal>
-        ensures ruled { Ruled (settle_answer carrier) (settle_tally carrier) (meaning self.old.source) self.old.books self.new.books result }
+        ensures ruled { Ruled (settle_answer carrier) (settle_tally carrier) (S.meaning self.old.source) self.old.books self.new.books result }
         ensures kept { self.new.source ≡ self.old.source }
     {
         self.books.settle(&self.source, carrier)
@@ -77,7 +77,7 @@ impl<S: Source> Hall<S> {
     // Makes summonses, looks and settles by its rule, until nobody waits or bids or the budget is used up, and answers how many of each it made.
     // Refused, in this order: never started, depth outside 1 to 128.
     pub fn run(&mut self, depth: usize, budget: u64) -> Result<Report, Refusal>
-        ensures ruled { Ruled (run_answer depth budget) (run_tally depth budget) (meaning self.old.source) self.old.books self.new.books result }
+        ensures ruled { Ruled (run_answer depth budget) (run_tally depth budget) (S.meaning self.old.source) self.old.books self.new.books result }
         ensures reported { IfOk result (λ p. Reports budget (tally_in self.old.books) (tally_in self.new.books) p) }
         ensures kept { self.new.source ≡ self.old.source }
     {
@@ -86,43 +86,43 @@ impl<S: Source> Hall<S> {
 
     // The price of a job. Refused, in this order: never started, job number too large.
     pub fn price(&self, job: usize) -> Result<u64, Refusal>
-        ensures { result ≡ price_answer job (meaning self.now.source) (tally_of (meaning self.now.source) self.now.books) }
+        ensures { result ≡ price_answer job (S.meaning self.now.source) (tally_of (S.meaning self.now.source) self.now.books) }
     {
         self.books.price(&self.source, job)
     }
 
     // The carrier that holds a job, if there is one. Refused as the price is.
     pub fn holder(&self, job: usize) -> Result<Option<usize>, Refusal>
-        ensures { result ≡ holder_answer job (meaning self.now.source) (tally_of (meaning self.now.source) self.now.books) }
+        ensures { result ≡ holder_answer job (S.meaning self.now.source) (tally_of (S.meaning self.now.source) self.now.books) }
     {
         self.books.holder(&self.source, job)
     }
 
     // A carrier's standing, with its unfinished bid. Refused, in this order: never started, carrier number too large.
     pub fn standing(&self, carrier: usize) -> Result<Standing, Refusal>
-        ensures { result ≡ standing_answer carrier (meaning self.now.source) (tally_of (meaning self.now.source) self.now.books) }
+        ensures { result ≡ standing_answer carrier (S.meaning self.now.source) (tally_of (S.meaning self.now.source) self.now.books) }
     {
         self.books.standing(&self.source, carrier)
     }
 
     // The total worth of the jobs that are held. Refused if never started.
     pub fn worth(&self) -> Result<u64, Refusal>
-        ensures { result ≡ worth_answer (meaning self.now.source) (tally_of (meaning self.now.source) self.now.books) }
+        ensures { result ≡ worth_answer (S.meaning self.now.source) (tally_of (S.meaning self.now.source) self.now.books) }
     {
         self.books.worth(&self.source)
     }
 
     // The counts of summonses, awards, stale bids and outs. Refused if never started.
     pub fn counts(&self) -> Result<Counts, Refusal>
-        ensures { result ≡ counts_answer (meaning self.now.source) (tally_of (meaning self.now.source) self.now.books) }
+        ensures { result ≡ counts_answer (S.meaning self.now.source) (tally_of (S.meaning self.now.source) self.now.books) }
     {
         self.books.counts(&self.source)
     }
 
     // Makes one call, and gives its answer.
     pub fn perform(&mut self, call: Call) -> Answer
-        ensures answered { result ≡ answer_to (meaning self.old.source) (tally_of (meaning self.old.source) self.old.books) call }
-        ensures tallied { tally_of (meaning self.old.source) self.new.books ≡ tally_by (meaning self.old.source) (tally_of (meaning self.old.source) self.old.books) call }
+        ensures answered { result ≡ answer_to (S.meaning self.old.source) (tally_of (S.meaning self.old.source) self.old.books) call }
+        ensures tallied { tally_of (S.meaning self.old.source) self.new.books ≡ tally_by (S.meaning self.old.source) (tally_of (S.meaning self.old.source) self.old.books) call }
         ensures refused { is_refused result ≡ true → self.new.books ≡ self.old.books }
         ensures kept { self.new.source ≡ self.old.source }
     {

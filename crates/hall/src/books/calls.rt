@@ -24,7 +24,7 @@ pub(super) fn within(low: u64, high: u64, n: u64) -> bool
 
 // Whether carriers, jobs and ceiling are within the limits of a hall.
 fn in_limits<S: Source>(source: &S) -> bool
-    ensures { result ≡ in_limits (meaning source.now) }
+    ensures { result ≡ in_limits (S.meaning source.now) }
 {
     within(1, 128, source.carriers() as u64)
         && within(1, 256, source.jobs() as u64)
@@ -32,7 +32,7 @@ fn in_limits<S: Source>(source: &S) -> bool
 }
 
 fn check_start<S: Source>(source: &S, step: u64, lanes: usize) -> Result<(), Refusal>
-    ensures { result ≡ start_answer step lanes (meaning source.now) }
+    ensures { result ≡ start_answer step lanes (S.meaning source.now) }
 {
     if !in_limits(source) {
         Err(Refusal::CountsOutside)
@@ -47,7 +47,7 @@ fn check_start<S: Source>(source: &S, step: u64, lanes: usize) -> Result<(), Ref
 
 // How many entries the carrier's row has.
 fn row_length<S: Source>(source: &S, carrier: usize) -> usize
-    ensures { result ≡ length (row_of (meaning source.now) carrier) }
+    ensures { result ≡ length (row_of (S.meaning source.now) carrier) }
 {
     match source.row_len(carrier) {
         Some(n) => n,
@@ -63,10 +63,10 @@ fn look_on<S: Source>(
     carrier: usize,
     bid: Bid,
 ) -> Bid
-    requires few_jobs { (meaning source.now).jobs ≤ 256 }
-    requires low_prices { (j : ℕ) → slice_index (take (meaning source.now).jobs prices.now) j ≤ 2 ^ 37 }
-    requires short_row { length (row_of (meaning source.now) carrier) < 2 ^ 64 }
-    ensures { result ≡ looked_on lanes (take (meaning source.now).jobs prices.now) (row_of (meaning source.now) carrier) bid }
+    requires few_jobs { (S.meaning source.now).jobs ≤ 256 }
+    requires low_prices { (j : ℕ) → slice_index (take (S.meaning source.now).jobs prices.now) j ≤ 2 ^ 37 }
+    requires short_row { length (row_of (S.meaning source.now) carrier) < 2 ^ 64 }
+    ensures { result ≡ looked_on lanes (take (S.meaning source.now).jobs prices.now) (row_of (S.meaning source.now) carrier) bid }
 {
     let mut bid = bid;
     for _lane in 0..lanes {
@@ -88,10 +88,10 @@ fn respond<S: Source>(
     counts: &mut Counts,
     act: Act,
 ) -> Result<Bid, Refusal>
-    requires few_jobs { (meaning source.now).jobs ≤ 256 }
-    requires low_prices { (j : ℕ) → slice_index (take (meaning source.now).jobs prices.now) j ≤ 2 ^ 37 }
+    requires few_jobs { (S.meaning source.now).jobs ≤ 256 }
+    requires low_prices { (j : ℕ) → slice_index (take (S.meaning source.now).jobs prices.now) j ≤ 2 ^ 37 }
     requires few_summonses { counts.old.summonses ≤ 2 ^ 53 }
-    ensures answered { result ≡ bid_after lanes (take (meaning source.now).jobs prices.now) (row_of (meaning source.now) carrier) standing.old act }
+    ensures answered { result ≡ bid_after lanes (take (S.meaning source.now).jobs prices.now) (row_of (S.meaning source.now) carrier) standing.old act }
     ensures stood { standing.new ≡ standing_after standing.old result }
     ensures numbered { counts.new ≡ counts_after act counts.old result }
 {
@@ -184,7 +184,7 @@ impl Books {
 
     // Whether these books were started for what the source is.
     pub(super) fn is_open<S: Source>(&self, source: &S) -> bool
-        ensures { result ≡ is_open (meaning source.now) self.now }
+        ensures { result ≡ is_open (S.meaning source.now) self.now }
     {
         self.started
             && self.carriers == source.carriers()
@@ -198,7 +198,7 @@ impl Books {
         step: u64,
         lanes: usize,
     ) -> Result<(), Refusal>
-        ensures { Ruled (λ m _. start_answer step lanes m) (start_tally step lanes) (meaning source.now) self.old self.new result }
+        ensures { Ruled (λ m _. start_answer step lanes m) (start_tally step lanes) (S.meaning source.now) self.old self.new result }
     {
         check_start(source, step, lanes)?;
         self.started = true;
@@ -221,7 +221,7 @@ impl Books {
 
     // Whether the hall was started, then whether there is such a carrier.
     fn admit<S: Source>(&self, source: &S, carrier: usize) -> Result<(), Refusal>
-        ensures { result ≡ admitted (meaning source.now) carrier self.now }
+        ensures { result ≡ admitted (S.meaning source.now) carrier self.now }
     {
         if !self.is_open(source) {
             Err(Refusal::NeverStarted)
@@ -234,8 +234,8 @@ impl Books {
 
     // Calls on a carrier, whose standing is lent to be changed. A bid that settles is still open after.
     fn call_on<S: Source>(&mut self, source: &S, carrier: usize, act: Act) -> Result<Bid, Refusal>
-        ensures answered { result ≡ bid_by (meaning source.now) carrier act (tally_of (meaning source.now) self.old) }
-        ensures tallied { tally_of (meaning source.now) self.new ≡ once (called (meaning source.now) carrier act) (tally_of (meaning source.now) self.old) }
+        ensures answered { result ≡ bid_by (S.meaning source.now) carrier act (tally_of (S.meaning source.now) self.old) }
+        ensures tallied { tally_of (S.meaning source.now) self.new ≡ once (called (S.meaning source.now) carrier act) (tally_of (S.meaning source.now) self.old) }
         ensures refused { is_ok result ≡ false → self.new ≡ self.old }
     {
         self.admit(source, carrier)?;
@@ -251,15 +251,15 @@ impl Books {
     }
 
     pub(crate) fn summon<S: Source>(&mut self, source: &S, carrier: usize) -> Result<(), Refusal>
-        ensures { Ruled (summon_answer carrier) (summon_tally carrier) (meaning source.now) self.old self.new result }
+        ensures { Ruled (summon_answer carrier) (summon_tally carrier) (S.meaning source.now) self.old self.new result }
     {
         self.call_on(source, carrier, Act::Summon)?;
         Ok(())
     }
 
     pub(crate) fn look<S: Source>(&mut self, source: &S, carrier: usize) -> Result<(), Refusal>
-        ensures ruled { Ruled (look_answer carrier) (look_tally carrier) (meaning source.now) self.old self.new result }
-        ensures looks { OnOk result (Looks (meaning source.now) carrier (tally_in self.old) (tally_in self.new)) }
+        ensures ruled { Ruled (look_answer carrier) (look_tally carrier) (S.meaning source.now) self.old self.new result }
+        ensures looks { OnOk result (Looks (S.meaning source.now) carrier (tally_in self.old) (tally_in self.new)) }
     {
         self.call_on(source, carrier, Act::Look)?;
         Ok(())
@@ -300,7 +300,7 @@ impl Books {
         source: &S,
         carrier: usize,
     ) -> Result<Verdict, Refusal>
-        ensures { Ruled (settle_answer carrier) (settle_tally carrier) (meaning source.now) self.old self.new result }
+        ensures { Ruled (settle_answer carrier) (settle_tally carrier) (S.meaning source.now) self.old self.new result }
     {
         let bid = self.call_on(source, carrier, Act::Settle)?;
         let verdict = judge(self.step, &self.prices, &self.holders, bid);

@@ -21,7 +21,7 @@ fn worth_served(standing: Standing) -> u64
 
 impl Books {
     pub(crate) fn price<S: Source>(&self, source: &S, job: usize) -> Result<u64, Refusal>
-        ensures { result ≡ price_answer job (meaning source.now) (tally_of (meaning source.now) self.now) }
+        ensures { result ≡ price_answer job (S.meaning source.now) (tally_of (S.meaning source.now) self.now) }
     {
         if !self.is_open(source) {
             return Err(Refusal::NeverStarted);
@@ -33,7 +33,7 @@ impl Books {
     }
 
     pub(crate) fn holder<S: Source>(&self, source: &S, job: usize) -> Result<Option<usize>, Refusal>
-        ensures { result ≡ holder_answer job (meaning source.now) (tally_of (meaning source.now) self.now) }
+        ensures { result ≡ holder_answer job (S.meaning source.now) (tally_of (S.meaning source.now) self.now) }
     {
         if !self.is_open(source) {
             return Err(Refusal::NeverStarted);
@@ -49,7 +49,7 @@ impl Books {
         source: &S,
         carrier: usize,
     ) -> Result<Standing, Refusal>
-        ensures { result ≡ standing_answer carrier (meaning source.now) (tally_of (meaning source.now) self.now) }
+        ensures { result ≡ standing_answer carrier (S.meaning source.now) (tally_of (S.meaning source.now) self.now) }
     {
         if !self.is_open(source) {
             return Err(Refusal::NeverStarted);
@@ -73,7 +73,7 @@ impl Books {
     }
 
     pub(crate) fn worth<S: Source>(&self, source: &S) -> Result<u64, Refusal>
-        ensures { result ≡ worth_answer (meaning source.now) (tally_of (meaning source.now) self.now) }
+        ensures { result ≡ worth_answer (S.meaning source.now) (tally_of (S.meaning source.now) self.now) }
     {
         if !self.is_open(source) {
             return Err(Refusal::NeverStarted);
@@ -82,7 +82,7 @@ impl Books {
     }
 
     pub(crate) fn counts<S: Source>(&self, source: &S) -> Result<Counts, Refusal>
-        ensures { result ≡ counts_answer (meaning source.now) (tally_of (meaning source.now) self.now) }
+        ensures { result ≡ counts_answer (S.meaning source.now) (tally_of (S.meaning source.now) self.now) }
     {
         if !self.is_open(source) {
             return Err(Refusal::NeverStarted);

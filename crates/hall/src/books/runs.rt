@@ -72,11 +72,11 @@ impl Books {
         carrier: usize,
         flight: &mut Ring<'_, InFlight>,
     )
-        requires open { is_open (meaning source.now) self.old ≡ true }
+        requires open { is_open (S.meaning source.now) self.old ≡ true }
         requires place { length (held flight.old) < room flight.old }
-        ensures ready { is_open (meaning source.now) self.new ≡ true }
-        ensures tallied { tally_in self.new ≡ called (meaning source.now) carrier Summon (tally_in self.old) }
-        ensures joined { held flight.new ≡ held flight.old ++ in_flight carrier (looks_for self.old.lanes (length (row_of (meaning source.now) carrier))) ∷ [] }
+        ensures ready { is_open (S.meaning source.now) self.new ≡ true }
+        ensures tallied { tally_in self.new ≡ called (S.meaning source.now) carrier Summon (tally_in self.old) }
+        ensures joined { held flight.new ≡ held flight.old ++ in_flight carrier (looks_for self.old.lanes (length (row_of (S.meaning source.now) carrier))) ∷ [] }
         ensures size { room flight.new ≡ room flight.old }
     {
         let looks_left = looks_for(self.lanes, row_length(source, carrier));
@@ -95,10 +95,10 @@ impl Books {
         line: &mut Ring<'_, usize>,
         flight: &mut Ring<'_, InFlight>,
     )
-        requires open { is_open (meaning source.now) self.old ≡ true }
+        requires open { is_open (S.meaning source.now) self.old ≡ true }
         requires line_place { length (held line.old) < room line.old }
         requires flight_place { length (held flight.old) < room flight.old }
-        ensures became { Became (meaning source.now) (λ n. first_acts (meaning source.now) first.carrier first.looks_left (held line.old) (held flight.old) (tally_in self.old) n) self.new (held line.new) (held flight.new) }
+        ensures became { Became (S.meaning source.now) (λ n. first_acts (S.meaning source.now) first.carrier first.looks_left (held line.old) (held flight.old) (tally_in self.old) n) self.new (held line.new) (held flight.new) }
         ensures line_size { room line.new ≡ room line.old }
         ensures flight_size { room flight.new ≡ room flight.old }
     {
@@ -125,13 +125,13 @@ impl Books {
         line: &mut Ring<'_, usize>,
         flight: &mut Ring<'_, InFlight>,
     )
-        requires open { is_open (meaning source.now) self.old ≡ true }
-        requires ordered { Ordered (meaning source.now) (state_in self.old (held line.old) (held flight.old) 0) }
+        requires open { is_open (S.meaning source.now) self.old ≡ true }
+        requires ordered { Ordered (S.meaning source.now) (state_in self.old (held line.old) (held flight.old) 0) }
         requires busy { 0 < length (held line.old) + length (held flight.old) }
         requires deep { 1 ≤ depth }
         requires line_room { room line.old ≡ 128 }
         requires flight_room { room flight.old ≡ 128 }
-        ensures became { Became (meaning source.now) (λ n. one_step (meaning source.now) depth (state_in self.old (held line.old) (held flight.old) n)) self.new (held line.new) (held flight.new) }
+        ensures became { Became (S.meaning source.now) (λ n. one_step (S.meaning source.now) depth (state_in self.old (held line.old) (held flight.old) n)) self.new (held line.new) (held flight.new) }
         ensures line_size { room line.new ≡ 128 }
         ensures flight_size { room flight.new ≡ 128 }
     {
@@ -151,13 +151,13 @@ impl Books {
         line: &mut Ring<'_, usize>,
         flight: &mut Ring<'_, InFlight>,
     )
-        requires open { is_open (meaning source.now) self.now ≡ true }
+        requires open { is_open (S.meaning source.now) self.now ≡ true }
         requires line_empty { held line.old ≡ [] }
         requires flight_empty { held flight.old ≡ [] }
         requires line_room { room line.old ≡ 128 }
         requires flight_room { room flight.old ≡ 128 }
         ensures waits { held line.new ≡ gathered if_waiting 0 (tally_in self.now).standings }
-        ensures bids { held flight.new ≡ gathered (if_bidding (meaning source.now) self.now.lanes) 0 (tally_in self.now).standings }
+        ensures bids { held flight.new ≡ gathered (if_bidding (S.meaning source.now) self.now.lanes) 0 (tally_in self.now).standings }
         ensures line_size { room line.new ≡ 128 }
         ensures flight_size { room flight.new ≡ 128 }
     {
@@ -190,14 +190,14 @@ impl Books {
         line: &mut Ring<'_, usize>,
         flight: &mut Ring<'_, InFlight>,
     ) -> u64
-        requires open { is_open (meaning source.now) self.old ≡ true }
-        requires ordered { Ordered (meaning source.now) (state_in self.old (held line.old) (held flight.old) 0) }
+        requires open { is_open (S.meaning source.now) self.old ≡ true }
+        requires ordered { Ordered (S.meaning source.now) (state_in self.old (held line.old) (held flight.old) 0) }
         requires deep { 1 ≤ depth }
         requires line_room { room line.old ≡ 128 }
         requires flight_room { room flight.old ≡ 128 }
-        ensures ready { is_open (meaning source.now) self.new ≡ true }
-        ensures made { state_in self.new (held line.new) (held flight.new) result ≡ many_steps (meaning source.now) depth budget (state_in self.old (held line.old) (held flight.old) 0) }
-        ensures ordered { Ordered (meaning source.now) (state_in self.new (held line.new) (held flight.new) 0) }
+        ensures ready { is_open (S.meaning source.now) self.new ≡ true }
+        ensures made { state_in self.new (held line.new) (held flight.new) result ≡ many_steps (S.meaning source.now) depth budget (state_in self.old (held line.old) (held flight.old) 0) }
+        ensures ordered { Ordered (S.meaning source.now) (state_in self.new (held line.new) (held flight.new) 0) }
         ensures grown { Grown self.old.counts self.new.counts }
     {
         let mut steps = 0;
@@ -217,7 +217,7 @@ impl Books {
         depth: usize,
         budget: u64,
     ) -> Result<Report, Refusal>
-        ensures ruled { Ruled (run_answer depth budget) (run_tally depth budget) (meaning source.now) self.old self.new result }
+        ensures ruled { Ruled (run_answer depth budget) (run_tally depth budget) (S.meaning source.now) self.old self.new result }
         ensures reported { IfOk result (λ p. Reports budget (tally_in self.old) (tally_in self.new) p) }
     {
         if !self.is_open(source) {

@@ -20,8 +20,8 @@ overflow_add-self c =
     let l : b.counts.outs ≤ 128 = (low_counts b.carriers b.jobs b.ceiling (tally_in b) (consistent_in b)).low_outs in
     search rules
 
-pub invariant-of-self : goal.invariant-of-self
-invariant-of-self c = (∣ out_keeps c.args.self.now c.args.carrier c.args.bid c.args.verdict c.requires.known c.requires.bidding c.requires.ruled c.in-Out.is ∣₁, tt)
+pub invariant_of-self : goal.invariant_of-self
+invariant_of-self c = record { kept = ∣ out_keeps c.args.self.now c.args.carrier c.args.bid c.args.verdict c.requires.known c.requires.bidding c.requires.ruled c.in-Out.is ∣₁ }
 
 pub returns-in-Out : goal.returns-in-Out
 returns-in-Out c = record {
@@ -42,8 +42,8 @@ overflow_add-self-in-Stale c =
     let l : b.counts.stales ≤ 2 ^ 52 = (low_counts b.carriers b.jobs b.ceiling (tally_in b) (consistent_in b)).low_stales in
     search rules
 
-pub invariant-of-self-in-Stale : goal.invariant-of-self-in-Stale
-invariant-of-self-in-Stale c = (∣ stale_keeps c.args.self.now c.args.carrier c.args.bid c.args.verdict c.requires.known c.requires.bidding c.requires.ruled c.in-Stale.is ∣₁, tt)
+pub invariant_of-self-in-Stale : goal.invariant_of-self-in-Stale
+invariant_of-self-in-Stale c = record { kept = ∣ stale_keeps c.args.self.now c.args.carrier c.args.bid c.args.verdict c.requires.known c.requires.bidding c.requires.ruled c.in-Stale.is ∣₁ }
 
 pub returns-in-Stale : goal.returns-in-Stale
 returns-in-Stale c = record {
@@ -87,12 +87,9 @@ overflow_add-self-in-Awarded c =
     let l : b.counts.awards ≤ 2 ^ 45 = (low_counts b.carriers b.jobs b.ceiling (tally_in b) (consistent_in b)).low_awards in
     search rules
 
-pub invariant-of-self-in-Awarded : goal.invariant-of-self-in-Awarded
-invariant-of-self-in-Awarded c = (
-  ∣ award_keeps c.args.self.now c.args.carrier c.args.bid c.args.verdict c.requires.known c.requires.bidding c.requires.ruled c.in-Awarded.award c.in-Awarded.is
-      c.free.new.standings c.best_worth.result c.free.ensures c.best_worth.ensures ∣₁,
-  tt,
-)
+pub invariant_of-self-in-Awarded : goal.invariant_of-self-in-Awarded
+invariant_of-self-in-Awarded c = record { kept = ∣ award_keeps c.args.self.now c.args.carrier c.args.bid c.args.verdict c.requires.known c.requires.bidding c.requires.ruled c.in-Awarded.award c.in-Awarded.is
+      c.free.new.standings c.best_worth.result c.free.ensures c.best_worth.ensures ∣₁ }
 
 pub returns-in-Awarded : goal.returns-in-Awarded
 returns-in-Awarded c = record {
