@@ -130,7 +130,7 @@ fn refused(heap: Global, fault: Fault) -> Result<Report, AllocError>
 
 // Adds to a text what a value shows.
 fn append<D: Display + Drop>(text: &mut String, value: D) -> Result<(), AllocError>
-    ensures { OnOk result (IfSome (output value) (λ bs. string_bytes text.new ≡ string_bytes text.old ++ bs)) }
+    ensures { OnOk result (IfSome (D.output value) (λ bs. string_bytes text.new ≡ string_bytes text.old ++ bs)) }
 {
     match text.write(value) {
         Ok(()) => Ok(()),

@@ -8,7 +8,7 @@ use std::fmt::Display;
 
 // Adds to a text what a value shows. It fails only for want of memory; what the text holds then is left open.
 pub fn append<D: Display + Drop>(text: &mut String, value: D) -> Result<(), AllocError>
-    ensures { OnOk result (IfSome (output value) (λ bs. string_bytes text.new ≡ string_bytes text.old ++ bs)) }
+    ensures { OnOk result (IfSome (D.output value) (λ bs. string_bytes text.new ≡ string_bytes text.old ++ bs)) }
 {
     match text.write(value) {
         Ok(()) => Ok(()),
