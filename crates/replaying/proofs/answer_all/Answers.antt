@@ -9,7 +9,7 @@ pub returns : goal.returns
 returns g c =
     let calls = vec_items c.args.log.now.calls in
     let m = layered (held_in c.args.log.now) (g.S.Source.meaning c.args.source) in
-    let size : length c.perform_layered.new.answers ≡ c.in_ok-answers.answers.len = c.perform_layered.auto.answers ∙ c.deref-mut.ensures.len in
+    let size : length c.perform_layered.new.answers ≡ c.in_ok-answers.answers.len = c.perform_layered.auto.answers ∙ c.deref_mut.ensures.len in
     let got : c.deref-3.result.now ≡ c.perform_layered.new.answers =
     c.deref-3.ensures.value ∙ take_at c.perform_layered.new.answers (drop (length c.perform_layered.new.answers) c.in_ok-answers.answers.items) c.in_ok-answers.answers.len size in (
       c.in_ok-append_lines.ensures ∙ ap (λ t. t ++ answer_lines c.deref-2.result.now c.deref-3.result.now) c.new-text.ensures.bytes
