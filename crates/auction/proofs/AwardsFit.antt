@@ -1,5 +1,5 @@
 -- Prices only rise, so what is said of each standing and its row survives an award; and the winner is within a step of its best.
-use Rattle.std.proofs.Common.{◌≡◌, ℕ, ◌+◌, ◌-◌, ◌<◌, ◌≤◌, false, List, length, get_or, set, pos, Some, None, Option, sym, refl, ap, ◌∙◌, ⊎_elim, arith}
+use Rattle.std.proofs.Common.{◌≡◌, ℕ, ◌+◌, ◌<◌, ◌≤◌, false, List, length, get_or, set, pos, Some, None, Option, sym, refl, ap, ◌∙◌, ⊎_elim, arith}
 use borrow.Author.Differences.{down, le_out}
 use Rattle.std.proofs.lemmas.Bool.{cases_eq, both_ways}
 use Rattle.sources.specs.Meaning.{Meaning, Sound, row_of, worth_in}

@@ -2,7 +2,7 @@
 use Prim.{IsProp}
 use mathlib.Core.Bool.{Bool-set}
 use mathlib.Core.HLevel.{Unit-prop}
-use Rattle.std.proofs.Common.{ℕ, ◌+◌, ◌-◌, length, ℤ, pos, ◌≤ℤ◌, Some, None, count_by, Option}
+use Rattle.std.proofs.Common.{ℕ, ◌+◌, length, ℤ, pos, ◌≤ℤ◌, Some, None, count_by, Option}
 use native.Mathlib.Bridge.{le_prop}
 use native.Mathlib.Nat.{ℕ_set}
 use lib.Dec.{T_prop}

@@ -1,6 +1,6 @@
 -- The rules: what each call answers, and the tally after it. No tally is that of a hall that was never started.
 -- Refusals stand in the order in which they are checked, and a refused call leaves the tally as it was.
-use Rattle.std.specs.Prelude.{ℕ, ◌+◌, ◌^◌, Bool, cond, ◌&&◌, List, length, set, replicate, Some, None, Ok, Err, Option, Result, nat_le, nat_lt, slice_set}
+use Rattle.std.specs.Prelude.{ℕ, ◌+◌, ◌^◌, Bool, cond, ◌&&◌, List, length, replicate, Some, None, Ok, Err, Option, Result, nat_le, nat_lt, slice_set}
 use Rattle.sources.specs.Meaning.{Meaning, row_of}
 use Rattle.refusals.specs.declared.Refusal.{Refusal}
 use Rattle.refusals.specs.declared.Refusal.TheVariants.{CountsOutside, NeverStarted, StepOutside, LanesOutside, NoSuchCarrier, NotWaiting, NoOpenBid, RowLookedAt, RowNotLookedAt}

@@ -1,12 +1,12 @@
 -- What reading takes: the bytes of a number, with anything behind them, and nothing else.
-use Rattle.std.proofs.Common.{◌≡◌, ℕ, zero, suc, ◌+◌, ◌-◌, ◌*◌, ◌/◌, ◌%◌, ◌^◌, ◌<◌, ◌≤◌, true, false, cond, ◌&&◌, eqb, ltb, ◌⊎◌, List, [], ◌∷◌, ◌++◌, length, get_or, drop, Ok, Err, Result, sym, refl, ap, ◌∙◌, inl, inr, ⊎_elim, pow-suc, add-one, arith}
+use Rattle.std.proofs.Common.{◌≡◌, ℕ, zero, suc, ◌+◌, ◌-◌, ◌*◌, ◌/◌, ◌%◌, ◌^◌, ◌<◌, ◌≤◌, true, false, cond, ◌&&◌, eqb, ltb, List, [], ◌∷◌, ◌++◌, length, get_or, drop, Ok, Err, Result, sym, refl, ap, ◌∙◌, ⊎_elim, pow-suc, add-one, arith}
 use native.Mathlib.Nat.{pow-le-pow_right}
 use Rattle.std.proofs.lemmas.List.{drop_all, drop_more}
 use Rattle.std.proofs.lemmas.Bool.{cases_lt, cases_eq, lt-ltb, le-ltb, eq-eqb, ne_eqb, and_from, and_right}
 use Rattle.std.specs.List.{AllByRecursion as All}
 use Rattle.refusals.specs.declared.Refusal.{Refusal}
-use Rattle.refusals.specs.declared.Refusal.TheVariants.{NumberCut, NumberTooLong, NumberPadded}
-use Rattle.numbers.specs.Groups.{encoded, before, decoded_in, decoded}
+use Rattle.refusals.specs.declared.Refusal.TheVariants.{NumberCut, NumberPadded}
+use Rattle.numbers.specs.Groups.{encoded, before, decoded_in}
 use Rattle.numbers.proofs.Groups.{encoded_small, encoded_large, pow_pos}
 
 decoded_last : (k b : ℕ) (bytes : List ℕ) → b < 128 → decoded_in (suc k) (b ∷ bytes) ≡ Ok (b, bytes)

@@ -3,7 +3,7 @@
 
 ghost use Rattle.std.specs.Prelude.{◌≡◌, ◌^◌, ◌≤◌, length};
 ghost use Rattle.pairing.specs.Listing.{refused_line};
-ghost use Rattle.pairing.specs.Pairs.{AtMost, FilePairsWell, Holds, PairsWell, auctioned, fitted, listed, listed_within, listing_after, printed, put_into, refusal_in, signed_size, sized};
+ghost use Rattle.pairing.specs.Pairs.{AtMost, FilePairsWell, Holds, PairsWell, auctioned, fitted, listed, listed_within, listing_after, printed, put_into, refusal_in, sized};
 
 use auction::standing::Standing;
 use refusals::Refusal;
@@ -86,17 +86,4 @@ fn put_refused(refusal: Refusal, out: &mut [u8]) -> usize
     let number_at = putting::put_bytes(out, 0, b"refused ");
     let number_end = putting::put_decimal(out, number_at, refusal.number() as u64);
     putting::put_bytes(out, number_end, b"\n")
-}
-
-// The call for C hosts: the listing's length, or minus the number of the refusal.
-#[unsafe(no_mangle)]
-pub extern "C" fn torwhisk_pair(sheet: &[u8], out: &mut [u8]) -> i64
-    ensures answer { result ≡ signed_size (listed_within sheet.now (length out.old)) }
-    ensures after { out.new ≡ put_into out.old (listed_within sheet.now (length out.old)) }
-    ensures paired { FilePairsWell sheet.now }
-{
-    match list_pairs(sheet, out) {
-        Ok(len) => len as i64,
-        Err(refusal) => -i64::from(refusal.number()),
-    }
 }

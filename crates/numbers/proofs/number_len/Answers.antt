@@ -1,4 +1,4 @@
-use Rattle.std.proofs.Common.{◌/◌, length, ap, arith}
+use Rattle.std.proofs.Common.{length, ap, arith}
 use Rattle.numbers.proofs.Groups.{encoded_few, encoded_large, encoded_small, encoded_some, sized}
 use Rattle.numbers.proofs.number_len.Goals as goal
 

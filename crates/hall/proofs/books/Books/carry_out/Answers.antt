@@ -88,8 +88,10 @@ overflow_add-self-in-Awarded c =
     search rules
 
 pub invariant_of-self-in-Awarded : goal.invariant_of-self-in-Awarded
-invariant_of-self-in-Awarded c = record { kept = ∣ award_keeps c.args.self.now c.args.carrier c.args.bid c.args.verdict c.requires.known c.requires.bidding c.requires.ruled c.in-Awarded.award c.in-Awarded.is
-      c.free.new.standings c.best_worth.result c.free.ensures c.best_worth.ensures ∣₁ }
+invariant_of-self-in-Awarded c = record {
+  kept = ∣ award_keeps c.args.self.now c.args.carrier c.args.bid c.args.verdict c.requires.known c.requires.bidding c.requires.ruled c.in-Awarded.award c.in-Awarded.is
+      c.free.new.standings c.best_worth.result c.free.ensures c.best_worth.ensures ∣₁;
+}
 
 pub returns-in-Awarded : goal.returns-in-Awarded
 returns-in-Awarded c = record {
