@@ -6,7 +6,7 @@ set -eu
 root=$(cd "$(dirname "$0")/.." && pwd)
 work=$(mktemp -d)
 trap 'rm -rf "$work"' EXIT
-cp -R "$root/crates" "$root/crates.txt" "$work"
+tar -C "$root" --exclude=out -cf - crates crates.txt | tar -C "$work" -xf -
 cd "$work"
 status=0
 for edit in "$root"/tools/typestate/*.edit; do
@@ -23,7 +23,7 @@ for edit in "$root"/tools/typestate/*.edit; do
             printf "%s%s%s", substr(text, 1, at - 1), ENVIRON["NEW"], rest
         }' "$root/$file" >edited || { echo "$name: its old text does not stand once in $file"; status=1; continue; }
     cp edited "$file"
-    if rt dev sheetfile >out 2>&1; then
+    if (cd crates/sheetfile && rt check --only=) >out 2>&1; then
         echo "$name: NOT REFUSED"
         status=1
     elif [ "$(grep -c ': error' out)" = 1 ] && grep -qF "$error" out; then

@@ -1,7 +1,7 @@
 -- What a look makes of a bid, of all the nets that it meets.
 use Rattle.std.proofs.Common.{◌≡◌, ℕ, ◌+◌, max, Bool, true, false, cond, eqb, List, [], ◌∷◌, ◌++◌, take, drop, Some, None, Ok, fold, Option, Result, sym, refl, ap, ◌∙◌, subst, append_assoc, arith, length-drop, length-take}
 use Rattle.std.specs.Option.{option_to_list}
-use Rattle.std.specs.List.{AllByRecursion as All}
+use Rattle.std.specs.List.{AllByRecursion}
 use Rattle.std.proofs.lemmas.List.{append-nil}
 use Rattle.std.proofs.ByRecursion.{All-push, All-weaker}
 use Rattle.std.proofs.lemmas.Bool.{cond_both}
@@ -38,19 +38,19 @@ ranked_gathers r b (Some x) all n g = either (beats n x) refl
       before = g.before ++ x ∷ g.after;
       after = [];
       among = ap (λ z. z ++ n ∷ []) g.among;
-      unbeaten = subst (All (λ z. beats z n ≡ false)) (sym (append-nil (g.before ++ x ∷ g.after))) (inserted g.before g.after (not_itself x n e)
+      unbeaten = subst (AllByRecursion (λ z. beats z n ≡ false)) (sym (append-nil (g.before ++ x ∷ g.after))) (inserted g.before g.after (not_itself x n e)
           (All-weaker (λ z. beats z x ≡ false) (λ z. beats z n ≡ false) (λ z h. still_no_better x n z h e) (g.before ++ g.after) g.unbeaten));
       runner = ap (λ z. max z (natural x.net)) g.runner ∙ sym (ap (largest r) (append-nil (g.before ++ x ∷ g.after)) ∙ largest_insert r g.before g.after x);
     }
       where
-        inserted : (xs ys : List Best) → beats x n ≡ false → All (λ z. beats z n ≡ false) (xs ++ ys) → All (λ z. beats z n ≡ false) (xs ++ x ∷ ys)
+        inserted : (xs ys : List Best) → beats x n ≡ false → AllByRecursion (λ z. beats z n ≡ false) (xs ++ ys) → AllByRecursion (λ z. beats z n ≡ false) (xs ++ x ∷ ys)
         inserted [] ys h a = (h, a)
         inserted (y ∷ xs) ys h a = (a.0, inserted xs ys h a.1)
     either false e = record {
       before = g.before;
       after = g.after ++ n ∷ [];
       among = ap (λ z. z ++ n ∷ []) g.among ∙ append_assoc g.before (x ∷ g.after) (n ∷ []);
-      unbeaten = subst (All (λ z. beats z x ≡ false)) (append_assoc g.before g.after (n ∷ [])) (All-push (λ z. beats z x ≡ false) (g.before ++ g.after) n g.unbeaten e);
+      unbeaten = subst (AllByRecursion (λ z. beats z x ≡ false)) (append_assoc g.before g.after (n ∷ [])) (All-push (λ z. beats z x ≡ false) (g.before ++ g.after) n g.unbeaten e);
       runner = ap (λ z. max z (natural n.net)) g.runner
           ∙ sym (ap (largest r) (sym (append_assoc g.before g.after (n ∷ []))) ∙ largest_insert r (g.before ++ g.after) [] n ∙ ap (λ z. max (largest r z) (natural n.net)) (append-nil (g.before ++ g.after)));
     }

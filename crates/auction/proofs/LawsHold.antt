@@ -2,7 +2,7 @@
 use Rattle.std.proofs.Common.{◌≡◌, ℕ, zero, suc, ◌+◌, ◌*◌, ◌^◌, ◌<◌, ◌≤◌, Bool, true, false, cond, eqb, leb, List, [], ◌∷◌, map, length, get_or, pos, ◌-ℤ◌, Some, None, sum_by, count_by, Option, sym, refl, ap, ◌∙◌, subst, ⊎_elim, mul-le-mul_left, arith}
 use lib.Signed.{lt_z}
 use borrow.Author.Differences.{up, down, lt-true}
-use Rattle.std.specs.List.{AllByRecursion as All}
+use Rattle.std.specs.List.{AllByRecursion}
 use Rattle.std.proofs.lemmas.Bool.{cases_lt, cond_both, both_ways, leb-true}
 use Rattle.std.proofs.lemmas.List.{length-map, get_or-map, get_or_past}
 use Rattle.std.proofs.lemmas.List.Sums.{sum_by-cons, count_by-le-length}
@@ -95,7 +95,7 @@ module _ (step : ℕ) (ps : List ℕ) where
 
 -- ---- a layer's worths are g times those below, where none was cut
 
-row_times : (g c : ℕ) → c < 2 ^ 60 → (row : List (ℕ × ℕ)) → All (λ e. e.1 ≤ c) (revalued_row (scaled g) row) → (j : ℕ) → worth_in (revalued_row (scaled g) row) j ≡ g * worth_in row j
+row_times : (g c : ℕ) → c < 2 ^ 60 → (row : List (ℕ × ℕ)) → AllByRecursion (λ e. e.1 ≤ c) (revalued_row (scaled g) row) → (j : ℕ) → worth_in (revalued_row (scaled g) row) j ≡ g * worth_in row j
 row_times g c low [] h j = omega arith
 row_times g c low (e ∷ row) h j = go (row_times g c low row h.1 j) (eqb e.0 j)
   where
@@ -103,7 +103,7 @@ row_times g c low (e ∷ row) h j = go (row_times g c low row h.1 j) (eqb e.0 j)
     go rest true = let a = h.0 in omega arith
     go rest false = rest
 
-along_times : (g c : ℕ) → c < 2 ^ 60 → (rows : List (List (ℕ × ℕ))) → All (All (λ e. e.1 ≤ c)) (map (revalued_row (scaled g)) rows) → (p : List (Option ℕ)) →
+along_times : (g c : ℕ) → c < 2 ^ 60 → (rows : List (List (ℕ × ℕ))) → AllByRecursion (AllByRecursion (λ e. e.1 ≤ c)) (map (revalued_row (scaled g)) rows) → (p : List (Option ℕ)) →
     worth_along (map (revalued_row (scaled g)) rows) p ≡ g * worth_along rows p
 along_times g c low [] h p = omega arith
 along_times g c low (row ∷ rows) h [] = omega arith
@@ -111,7 +111,7 @@ along_times g c low (row ∷ rows) h (None ∷ p) = let rest = along_times g c l
 along_times g c low (row ∷ rows) h (Some j ∷ p) =
     let rest = along_times g c low rows h.1 p in let one = row_times g c low row h.0 j in omega arith
 
-worthy_times : (g c : ℕ) → c < 2 ^ 60 → (rows : List (List (ℕ × ℕ))) → All (All (λ e. e.1 ≤ c)) (map (revalued_row (scaled g)) rows) → (i j : ℕ) →
+worthy_times : (g c : ℕ) → c < 2 ^ 60 → (rows : List (List (ℕ × ℕ))) → AllByRecursion (AllByRecursion (λ e. e.1 ≤ c)) (map (revalued_row (scaled g)) rows) → (i j : ℕ) →
     worth_in (get_or (map (revalued_row (scaled g)) rows) i []) j ≡ g * worth_in (get_or rows i []) j
 worthy_times g c low [] h i j = omega arith
 worthy_times g c low (row ∷ rows) h zero j = row_times g c low row h.0 j
@@ -181,8 +181,8 @@ module _ (m : Meaning) (sound : Sound m) (t : Tally) (law : Invariant m t) where
       cut : m.ceiling < 2 ^ 60
       cut = let l = law.consistent.limits.low_ceiling in omega arith
 
-      capped : All (All (λ f. f.1 ≤ m.ceiling)) (map (revalued_row (scaled g)) below.rows)
-      capped = subst (All (All (λ f. f.1 ≤ m.ceiling))) rows_are sound.within
+      capped : AllByRecursion (AllByRecursion (λ f. f.1 ≤ m.ceiling)) (map (revalued_row (scaled g)) below.rows)
+      capped = subst (AllByRecursion (AllByRecursion (λ f. f.1 ≤ m.ceiling))) rows_are sound.within
 
       times : (q : List (Option ℕ)) → worth m q ≡ g * worth below q
       times q = ap (λ rs. worth_along rs q) rows_are ∙ along_times g m.ceiling cut below.rows capped q

@@ -1,7 +1,7 @@
 -- A look keeps a bid sound, and finds no price risen that had not risen before.
 use Rattle.std.proofs.Common.{◌≡◌, ℕ, ◌<◌, ◌≤◌, max, eqb, List, [], ◌∷◌, get_or, take, drop, Some, None, fold, Option, ap, arith}
 use borrow.Author.Differences.{up, ints}
-use Rattle.std.specs.List.{AllByRecursion as All}
+use Rattle.std.specs.List.{AllByRecursion}
 use Rattle.std.proofs.ByRecursion.{All-take, All-drop}
 use Rattle.std.proofs.lemmas.Bool.{cond_both}
 use Rattle.auction.specs.declared.standing.Best.{Best}
@@ -43,7 +43,7 @@ module _ (jobs ceiling : ℕ) (ps : List ℕ) where
   weighed_sound b e j w h =
       cond_both {A = Bid} (eqb e.1 0) _ _ (StaysSound b.best) (λ _. (h, omega arith)) (λ _. ranked_sound b b.best e j w h)
 
-  folded_sound : (es : List (ℕ × ℕ)) (b : Bid) → All (λ e. e.0 < jobs) es → All (λ e. e.1 ≤ ceiling) es → BidSound jobs ceiling b.runner_up b.best →
+  folded_sound : (es : List (ℕ × ℕ)) (b : Bid) → AllByRecursion (λ e. e.0 < jobs) es → AllByRecursion (λ e. e.1 ≤ ceiling) es → BidSound jobs ceiling b.runner_up b.best →
       StaysSound b.best (fold (weighed ps) b es)
   folded_sound [] b j w h = (h, omega arith)
   folded_sound (e ∷ es) b j w h =
@@ -51,7 +51,7 @@ module _ (jobs ceiling : ℕ) (ps : List ℕ) where
       let rest = folded_sound es (weighed ps b e) j.1 w.1 first.0 in
       (rest.0, omega (arith, first.1, rest.1))
 
-  pub looked_sound : (lanes : ℕ) (row : List (ℕ × ℕ)) (b : Bid) → All (λ e. e.0 < jobs) row → All (λ e. e.1 ≤ ceiling) row → BidSound jobs ceiling b.runner_up b.best →
+  pub looked_sound : (lanes : ℕ) (row : List (ℕ × ℕ)) (b : Bid) → AllByRecursion (λ e. e.0 < jobs) row → AllByRecursion (λ e. e.1 ≤ ceiling) row → BidSound jobs ceiling b.runner_up b.best →
       StaysSound b.best (looked_on lanes ps row b)
   looked_sound lanes row b j w h = folded_sound (take lanes (drop b.looked row)) b
       (All-take (λ e. e.0 < jobs) lanes (drop b.looked row) (All-drop (λ e. e.0 < jobs) b.looked row j))

@@ -1,6 +1,6 @@
 -- Line and flight while standings change.
 use Rattle.std.proofs.Common.{◌≡◌, ℕ, zero, suc, ◌+◌, ◌*◌, ◌<◌, ◌≤◌, Bool, true, false, eqb, List, [], ◌∷◌, ◌++◌, length, get_or, set, count_by, sym, refl, ap, ◌∙◌, subst, ⊎_elim, arith}
-use Rattle.std.specs.List.{AllByRecursion as All}
+use Rattle.std.specs.List.{AllByRecursion}
 use Rattle.std.proofs.lemmas.Bool.{cases_lt, cases_eq, cases_Bool, both_ways, eq-eqb, ne_eqb}
 use Rattle.std.proofs.lemmas.List.{get_or-set_same, get_or-set_other, get_or_past, append-nil, append_assoc, length-append}
 use Rattle.std.proofs.lemmas.List.Sums.{sum_by-cons, sum_by-append}
@@ -37,7 +37,7 @@ module _ {X : Type 0} (number : X → ℕ) where
   pub times_there : (k : ℕ) (x : X) (xs : List X) → (k ≡ number x → ⊥) → times_in number k (xs ++ x ∷ []) ≡ times_in number k xs
   times_there k x xs n = let a = times_append k xs (x ∷ []) in let b = times_later k x [] n in omega (arith, a, b)
 
-  all_apart : (P : X → Type 0) (i : ℕ) (xs : List X) → times_in number i xs ≡ 0 → All P xs → All (λ x. (number x ≡ i → ⊥) × P x) xs
+  all_apart : (P : X → Type 0) (i : ℕ) (xs : List X) → times_in number i xs ≡ 0 → AllByRecursion P xs → AllByRecursion (λ x. (number x ≡ i → ⊥) × P x) xs
   all_apart P i [] z h = tt
   all_apart P i (x ∷ xs) z h =
       let c = sum_by-cons (λ y. one (eqb (number y) i)) x xs in
@@ -148,7 +148,7 @@ module _ (m : Meaning) (lanes : ℕ) where
   unflown ss i z f q e =
       let w : one (is_bidding (get_or ss i Out)) ≡ 1 = ap (λ k. one (is_bidding (get_or ss k Out))) (sym e) ∙ ap (λ s. one (is_bidding s)) q.1 in omega (arith, z, w)
 
-  unflown_stay : (ss : List Standing) (i : ℕ) (s : Standing) (flight : List InFlight) → one (is_bidding (get_or ss i Out)) ≡ 0 → All (Due m lanes ss) flight → All (Due m lanes (set ss i s)) flight
+  unflown_stay : (ss : List Standing) (i : ℕ) (s : Standing) (flight : List InFlight) → one (is_bidding (get_or ss i Out)) ≡ 0 → AllByRecursion (Due m lanes ss) flight → AllByRecursion (Due m lanes (set ss i s)) flight
   unflown_stay ss i s flight z = All-weaker (Due m lanes ss) (Due m lanes (set ss i s)) (λ f q. due_stays m lanes ss i s f (unflown ss i z f q) q) flight
 
   -- A waiting carrier is summoned.
@@ -189,7 +189,7 @@ module _ (m : Meaning) (lanes : ℕ) where
     not_in_line : times_in (λ z. z) f.carrier line ≡ 0
     not_in_line = law.waits f.carrier ∙ ap (λ s. one (is_waiting s)) first.1
 
-    others_stay : (s : Standing) → All (Due m lanes (set ss f.carrier s)) flight
+    others_stay : (s : Standing) → AllByRecursion (Due m lanes (set ss f.carrier s)) flight
     others_stay s =
         All-weaker (λ g. (g.carrier ≡ f.carrier → ⊥) × Due m lanes ss g) (Due m lanes (set ss f.carrier s)) (λ g q. due_stays m lanes ss f.carrier s g q.0 q.1) flight
         (all_apart {X = InFlight} (λ g. g.carrier) (Due m lanes ss) f.carrier flight alone law.due.1)

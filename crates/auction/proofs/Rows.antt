@@ -1,6 +1,6 @@
 -- Rows of entries: what a job is worth in a row.
 use Rattle.std.proofs.Common.{◌≡◌, ℕ, zero, suc, ◌+◌, ◌<◌, ◌≤◌, eqb, List, [], ◌∷◌, length, get_or, refl, ◌∙◌, subst, arith}
-use Rattle.std.specs.List.{AllByRecursion as All}
+use Rattle.std.specs.List.{AllByRecursion}
 use Rattle.std.proofs.lemmas.Bool.{cond_both, cond-true, cond-false, eq-eqb, ne_eqb, eqb-true}
 use Rattle.sources.specs.Meaning.{worth_in, Rising}
 use Rattle.sources.proofs.Reading.{rising_above}
@@ -19,13 +19,13 @@ listed low (e ∷ row) r (suc k) h =
     let above = rising_above (e.0 + 1) row r.1 k (omega arith) in
     cond-false (eqb e.0 (job_in row k)) e.1 (worth_in row (job_in row k)) (ne_eqb e.0 (job_in row k) (λ q. omega arith)) ∙ listed (e.0 + 1) row r.1 k (omega arith)
 
-pub worth_below : (n : ℕ) (row : List (ℕ × ℕ)) → All (λ e. e.0 < n) row → (j : ℕ) → 0 < worth_in row j → j < n
+pub worth_below : (n : ℕ) (row : List (ℕ × ℕ)) → AllByRecursion (λ e. e.0 < n) row → (j : ℕ) → 0 < worth_in row j → j < n
 worth_below n [] h j above = absurd (omega arith)
 worth_below n (e ∷ row) h j above =
     cond_both (eqb e.0 j) e.1 (worth_in row j) (λ w. 0 < w → j < n)
     (λ q _. let s = eqb-true e.0 j q in let l = h.0 in omega arith) (λ q. worth_below n row h.1 j) above
 
-pub worth_capped : (c : ℕ) (row : List (ℕ × ℕ)) → All (λ e. e.1 ≤ c) row → (j : ℕ) → worth_in row j ≤ c
+pub worth_capped : (c : ℕ) (row : List (ℕ × ℕ)) → AllByRecursion (λ e. e.1 ≤ c) row → (j : ℕ) → worth_in row j ≤ c
 worth_capped c [] h j = omega arith
 worth_capped c (e ∷ row) h j =
     cond_both (eqb e.0 j) e.1 (worth_in row j) (λ w. w ≤ c) (λ q. h.0) (λ q. worth_capped c row h.1 j)

@@ -2,7 +2,7 @@
 use Rattle.std.proofs.Common.{◌≡◌, ℕ, zero, suc, ◌+◌, ◌-◌, ◌*◌, ◌<◌, ◌≤◌, Bool, true, false, cond, eqb, ltb, leb, ◌⊎◌, List, [], ◌∷◌, ◌++◌, length, get_or, take, drop, set, pos, Some, None, Ok, Err, fold, count_by, Option, Result, sym, refl, ap, ◌∙◌, subst, inl, inr, ⊎_elim, mod-lt, div-add-mod', arith}
 use lib.Signed.{lt_z}
 use Rattle.std.specs.Option.{option_to_list}
-use Rattle.std.specs.List.{AllByRecursion as All}
+use Rattle.std.specs.List.{AllByRecursion}
 use Rattle.std.proofs.lemmas.Bool.{cases_lt, cond_both, cond-true, eq-eqb, lt-ltb, leb-true, le-leb}
 use Rattle.std.proofs.lemmas.List.{set-get_or, length-take, length-drop, append-nil}
 use Rattle.std.proofs.lemmas.List.Sums.{sum_by-cons}
@@ -291,7 +291,7 @@ module _ (m : Meaning) (lanes : ℕ) where
     next : (i : ℕ) (s : Standing) (ss : List Standing) → ((k : ℕ) → get_or all (i + k) Out ≡ get_or (s ∷ ss) k Out) → (k : ℕ) → get_or all (suc i + k) Out ≡ get_or ss k Out
     next i s ss h k = ap (λ z. get_or all z Out) (omega arith) ∙ h (suc k)
 
-    flight_due : (i : ℕ) (ss : List Standing) → ((k : ℕ) → get_or all (i + k) Out ≡ get_or ss k Out) → All (Due m lanes all) (gathered (if_bidding m lanes) i ss)
+    flight_due : (i : ℕ) (ss : List Standing) → ((k : ℕ) → get_or all (i + k) Out ≡ get_or ss k Out) → AllByRecursion (Due m lanes all) (gathered (if_bidding m lanes) i ss)
     flight_due i [] h = tt
     flight_due i (Waiting ∷ ss) h = flight_due (suc i) ss (next i Waiting ss h)
     flight_due i (Bidding b ∷ ss) h =

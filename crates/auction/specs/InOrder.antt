@@ -1,6 +1,6 @@
 -- What holds of line and flight during a run: each waiting carrier is once in the line, each bidding one once in the flight, and nobody else is in either.
 use Rattle.std.specs.Prelude.{◌≡◌, ℕ, ◌+◌, ◌*◌, ◌≤◌, cond, List, length, count_by, nat_eq, slice_index_or}
-use Rattle.std.specs.List.{AllByRecursion as All}
+use Rattle.std.specs.List.{AllByRecursion}
 use Rattle.sources.specs.Meaning.{Meaning, row_of}
 use Rattle.auction.specs.declared.standing.Bid.{Bid}
 use Rattle.auction.specs.declared.standing.Counts.{Counts}
@@ -21,7 +21,7 @@ Due m lanes ss f = (b : Bid) × (slice_index_or ss f.carrier Out ≡ Bidding b) 
 pub record InOrder (m : Meaning) (lanes : ℕ) (line : List ℕ) (flight : List InFlight) (ss : List Standing) : Type 0 where
   pub waits : (k : ℕ) → times_in (λ i. i) k line ≡ cond (is_waiting (slice_index_or ss k Out)) 1 0
   pub bids : (k : ℕ) → times_in (λ f. f.carrier) k flight ≡ cond (is_bidding (slice_index_or ss k Out)) 1 0
-  pub due : All (Due m lanes ss) flight
+  pub due : AllByRecursion (Due m lanes ss) flight
 
 abbrev pub Ordered : Meaning → RunState → Type 0
 Ordered m r = InOrder m r.tally.lanes r.line r.flight r.tally.standings

@@ -1,7 +1,7 @@
 -- What a look makes of a bid, said of all the nets that it meets.
 use Rattle.std.specs.Prelude.{◌≡◌, ℕ, ◌+◌, ◌-◌, min, max, false, cond, List, [], ◌∷◌, ◌++◌, length, take, drop, pos, ◌-ℤ◌, Some, None, Option, ◌==◌, slice_index}
 use Rattle.std.specs.Option.{option_to_list}
-use Rattle.std.specs.List.{AllByRecursion as All}
+use Rattle.std.specs.List.{AllByRecursion}
 use Rattle.sources.specs.Meaning.{Meaning, row_of}
 use Rattle.auction.specs.declared.standing.Best.{Best}
 use Rattle.auction.specs.declared.standing.Bid.{Bid}
@@ -28,7 +28,7 @@ pub record BestOf (r r' : ℕ) (all : List Best) (x : Best) : Type 0 where
   pub before : List Best
   pub after : List Best
   pub among : all ≡ before ++ x ∷ after
-  pub unbeaten : All (λ z. beats z x ≡ false) (before ++ after)
+  pub unbeaten : AllByRecursion (λ z. beats z x ≡ false) (before ++ after)
   pub runner : r' ≡ largest r (before ++ after)
 
 abbrev pub Gathered : ℕ → ℕ → List Best → Option Best → Type 0

@@ -1,7 +1,7 @@
 -- What the calls of a run leave, where the books are open to the source.
 use Rattle.std.proofs.Common.{◌≡◌, ℕ, zero, suc, ◌+◌, ◌-◌, ◌<◌, ◌≤◌, Bool, true, false, cond, ◌&&◌, eqb, ltb, List, [], ◌∷◌, ◌++◌, length, get_or, take, Some, None, Ok, Err, Option, Result, sym, refl, ap, ◌∙◌, subst, ⊎_elim, arith}
 use Rattle.std.specs.Option.{option_to_list}
-use Rattle.std.specs.List.{AllByRecursion as All}
+use Rattle.std.specs.List.{AllByRecursion}
 use Rattle.std.proofs.lemmas.List.{take_more, length-take-le}
 use Rattle.std.proofs.lemmas.Bool.{cases_Bool, and_parts, and_left, both_ways, eqb-true, eqb-false, ne_eqb, lt-ltb, cond-true, cond-false}
 use Rattle.sources.specs.Meaning.{Meaning, Sound, Rising, row_of}
@@ -32,7 +32,7 @@ use Rattle.hall.proofs.Tables.{open_tally, shut_tally, open_parts, consistent_in
 
 -- ---- a row has no more entries than there are jobs
 
-rising_short : (low n : ℕ) (row : List (ℕ × ℕ)) → Rising low row → All (λ e. e.0 < n) row → low ≤ n → low + length row ≤ n
+rising_short : (low n : ℕ) (row : List (ℕ × ℕ)) → Rising low row → AllByRecursion (λ e. e.0 < n) row → low ≤ n → low + length row ≤ n
 rising_short low n [] r k h = omega arith
 rising_short low n (e ∷ row) r k h =
     let a = rising_short (e.0 + 1) n row r.1 k.1 (omega (arith, k.0)) in omega (arith, a, r.0)

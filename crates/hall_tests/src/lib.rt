@@ -6,7 +6,7 @@ mod examples;
 #[cfg(test)]
 mod refused;
 #[cfg(test)]
-mod rings;
+mod ring;
 #[cfg(test)]
 mod runs;
 #[cfg(test)]

@@ -4,7 +4,7 @@ use Rattle.std.proofs.lemmas.List.{append_assoc, append-nil, flat_map_more, leng
 use Rattle.std.proofs.ByRecursion.{All-from_get_or, All-take}
 use Rattle.std.proofs.lemmas.Option.{slice_get_past}
 use Rattle.std.proofs.lemmas.Bool.{cases_lt, le-leb}
-use Rattle.std.specs.List.{flat_map, AllByRecursion as All}
+use Rattle.std.specs.List.{flat_map, AllByRecursion}
 use Rattle.refusals.specs.declared.Fault.{Fault}
 use Rattle.refusals.specs.declared.Refusal.TheVariants.{TooShort}
 use Rattle.refusals.specs.Faults.{fault_of}
@@ -62,13 +62,13 @@ entries_more m i k e is =
     ∙ ap (flat_map entry_text) (sym (take_more (row_of m i) k (0, 0) (entry_inside m i k e is)))
 
 -- how many entries there may be
-few : (rows : List Row) → All (λ row. length row ≤ 256) rows → entries_in rows ≤ 256 * length rows
+few : (rows : List Row) → AllByRecursion (λ row. length row ≤ 256) rows → entries_in rows ≤ 256 * length rows
 few [] all = omega arith
 few (row ∷ rows) all = let a = all.0 in let i = few rows all.1 in omega arith
 
 pub entries_few : (m : Meaning) → Sound m → m.jobs ≤ 256 → m.carriers ≤ 128 → (i : ℕ) → i ≤ m.carriers → entries_in (take i m.rows) ≤ 32768
 entries_few m s jobs carriers i inside =
-    let rows : All (λ row. length row ≤ 256) m.rows = All-from_get_or (λ row. length row ≤ 256) m.rows [] (λ k l. omega (arith, row_length m s k)) in
+    let rows : AllByRecursion (λ row. length row ≤ 256) m.rows = All-from_get_or (λ row. length row ≤ 256) m.rows [] (λ k l. omega (arith, row_length m s k)) in
     let c = s.counted in
     omega (arith, few (take i m.rows) (All-take (λ row. length row ≤ 256) i m.rows rows), length-take-le i m.rows (omega arith))
 

@@ -2,7 +2,7 @@
 use Rattle.std.proofs.Common.{◌≡◌, ℕ, ◌+◌, ◌-◌, ◌^◌, ◌<◌, ◌≤◌, List, ◌++◌, length, get_or, take, drop, IfOk, Ok, Err, Result, sym, refl, ap, ◌∙◌, arith, w8, Fits}
 use Rattle.std.proofs.lemmas.List.{drop_at, drop-drop, length-append, length-drop, length-take-le}
 use Rattle.std.proofs.ByRecursion.{All-drop, All-from_get_or}
-use Rattle.std.specs.List.{AllByRecursion as All}
+use Rattle.std.specs.List.{AllByRecursion}
 use Rattle.refusals.specs.declared.Refusal.{Refusal}
 use Rattle.refusals.specs.declared.Fault.{Fault}
 use Rattle.numbers.specs.Groups.{decoded, encoded}
@@ -24,7 +24,7 @@ reads bytes at n behind small is =
     ap (λ bs. placed bytes at (decoded bs)) is ∙ ap (placed bytes at) (read_back 5 n behind small)
     ∙ ap (λ m. Ok (n, m)) (next_place bytes at n behind is)
 
-form_of : (bytes : List ℕ) (at : ℕ) (d : Result (ℕ × List ℕ) Refusal) → All (λ b. b < 256) bytes → decoded (drop at bytes) ≡ d
+form_of : (bytes : List ℕ) (at : ℕ) (d : Result (ℕ × List ℕ) Refusal) → AllByRecursion (λ b. b < 256) bytes → decoded (drop at bytes) ≡ d
     → IfOk (placed bytes at d) (λ p. Begins bytes at p.0 p.1)
 form_of bytes at (Err e) small is = tt
 form_of bytes at (Ok (n, left)) small is =
@@ -38,7 +38,7 @@ form_of bytes at (Ok (n, left)) small is =
 pub exactly : (bytes : List ℕ) (at : ℕ) (r : Result (ℕ × ℕ) Fault) → ((i : ℕ) → Fits w8 (get_or bytes i 0)) → r ≡ read_at bytes at
     → ReadsExactly bytes at r
 exactly bytes at r typed is =
-    let small : All (λ b. b < 256) bytes = All-from_get_or (λ b. b < 256) bytes 0 (λ i _. omega (arith, typed i)) in
+    let small : AllByRecursion (λ b. b < 256) bytes = All-from_get_or (λ b. b < 256) bytes 0 (λ i _. omega (arith, typed i)) in
     rw is (record { one_form = form_of bytes at (decoded (drop at bytes)) small refl; read_back = λ n behind low front. reads bytes at n behind low front })
 
 -- a number that was written is read again

@@ -3,7 +3,7 @@ use Rattle.std.proofs.Common.{◌≡◌, ℕ, zero, suc, ◌+◌, ◌-◌, ◌*�
 use native.Mathlib.Nat.{pow-le-pow_right}
 use Rattle.std.proofs.lemmas.List.{drop_all, drop_more}
 use Rattle.std.proofs.lemmas.Bool.{cases_lt, cases_eq, lt-ltb, le-ltb, eq-eqb, ne_eqb, and_from, and_right}
-use Rattle.std.specs.List.{AllByRecursion as All}
+use Rattle.std.specs.List.{AllByRecursion}
 use Rattle.refusals.specs.declared.Refusal.{Refusal}
 use Rattle.refusals.specs.declared.Refusal.TheVariants.{NumberCut, NumberPadded}
 use Rattle.numbers.specs.Groups.{encoded, before, decoded_in}
@@ -68,7 +68,7 @@ accepted_more k b bytes (Ok (m, l)) n left byte large inner is =
     (rw (encoded_large n (omega arith), p, q, el) (ap (λ (zs : List ℕ). b ∷ zs) i.0), omega (arith, i.1)))
     (cases_eq m 0)
 
-pub accepted : (k : ℕ) (bytes : List ℕ) (n : ℕ) (left : List ℕ) → All (λ b. b < 256) bytes → decoded_in k bytes ≡ Ok (n, left)
+pub accepted : (k : ℕ) (bytes : List ℕ) (n : ℕ) (left : List ℕ) → AllByRecursion (λ b. b < 256) bytes → decoded_in k bytes ≡ Ok (n, left)
     → (bytes ≡ encoded n ++ left) × (n < 128 ^ k)
 unfolding decoded_in
 accepted zero bytes n left small is = absurd (let z : ◌≡◌ {A = ℕ} 0 1 = cc in omega arith)

@@ -1,6 +1,6 @@
 -- What comes of pairing the carriers and jobs of a sheet file.
 use Rattle.std.specs.Prelude.{◌≡◌, ℕ, ◌+◌, ◌≤◌, List, [], ◌∷◌, length, take, ℤ, pos, ◌-ℤ◌, Some, None, Ok, Err, Option, Result}
-use Rattle.std.specs.List.{AllByRecursion as All}
+use Rattle.std.specs.List.{AllByRecursion}
 use Rattle.refusals.specs.declared.Fault.{Fault}
 use Rattle.refusals.specs.declared.Refusal.{Refusal}
 use Rattle.refusals.specs.declared.Refusal.TheVariants.{CountsOutside, TooShort}
@@ -92,7 +92,7 @@ Ends (Some t) r ss = (r ≡ Ok t.counts) × (ss ≡ t.standings)
 -- What is told of a tally is a pairing of the sheet; and if every carrier is served or out, no pairing of the sheet is worth more.
 pub record WellPaired (m : Meaning) (t : Tally) : Type 0 where
   pub own : Pairing m (pairing_of t)
-  pub best : All Done t.standings → (p : List (Option ℕ)) → Pairing m p → worth m p ≤ worth m (pairing_of t)
+  pub best : AllByRecursion Done t.standings → (p : List (Option ℕ)) → Pairing m p → worth m p ≤ worth m (pairing_of t)
 
 -- That holds of the tally that the auction of a sheet ends with.
 abbrev pub PairsWell : Meaning → Type 0

@@ -3,7 +3,7 @@ ghost use Rattle.std.specs.Prelude.{◌≡◌, ◌+◌, ◌*◌, ◌^◌, ◌<�
 ghost use Rattle.sources.specs.Meaning.{row_of};
 ghost use Rattle.sheetfile.specs.Writing.{Writes};
 ghost use Rattle.auction.specs.Laws.{given_worth, job_served, worth};
-ghost use Rattle.pairing.specs.Listing.{carrier_line, carrier_lines, last_line, listing as listingOf, standing_text};
+ghost use Rattle.pairing.specs.Listing.{carrier_line, carrier_lines, last_line, listing as listing_of, standing_text};
 
 use crate::putting::{put_bytes, put_decimal};
 use auction::standing::{Counts, Standing};
@@ -114,7 +114,7 @@ pub(crate) fn put_listing<S: Source>(
     requires few { length standings.now ≤ 128 }
     requires each { length standings.now ≡ (S.Source.meaning source.now).carriers }
     requires low { (S.Source.meaning source.now).ceiling ≤ 2 ^ 36 }
-    ensures written { Writes out.old out.new 0 result (listingOf (S.Source.meaning source.now) standings.now counts) }
+    ensures written { Writes out.old out.new 0 result (listing_of (S.Source.meaning source.now) standings.now counts) }
     ensures short { result ≤ 8320 }
 {
     let next = put_lines(source, standings, out);

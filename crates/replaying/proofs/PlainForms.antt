@@ -5,7 +5,7 @@ use Rattle.std.proofs.lemmas.List.{append_assoc, append-nil}
 use Rattle.std.proofs.lemmas.Str.Parse.{IsNumeralModel, numerals_by_fold, tells_all_ascii_digits}
 use Rattle.std.proofs.lemmas.Bool.{and_from, and_parts, cond-false, le-ltb, leb-true, ne_eqb, not_from_false, not-true}
 use Rattle.std.specs.Char.{is_ascii_digit}
-use Rattle.std.specs.List.{AllByRecursion as All}
+use Rattle.std.specs.List.{AllByRecursion}
 use Rattle.std.specs.Str.{all_ascii_digits}
 use Rattle.auction.specs.declared.call.Call.{Call}
 use Rattle.auction.specs.declared.call.Call.TheVariants.{Start, Summon, Look, Settle, Run, PriceOf, HolderOf, StandingOf, TotalWorth, AllCounts}
@@ -113,7 +113,7 @@ blank : said_by [] ≡ Skip
 unfolding said_by parts_of
 blank = refl
 
-asked_back : (n : ℕ) (before calls : List Call) → All Sized calls → asked_from n (record { nearest = None; second = None; calls = before }) (lines_of (plain_log calls)) ≡ Ok (record { nearest = None; second = None; calls = before ++ calls })
+asked_back : (n : ℕ) (before calls : List Call) → AllByRecursion Sized calls → asked_from n (record { nearest = None; second = None; calls = before }) (lines_of (plain_log calls)) ≡ Ok (record { nearest = None; second = None; calls = before ++ calls })
 unfolding parts_of
 asked_back n before [] s =
     asked_more n _ _ [] [] Skip (sym blank) refl ∙ asked_all (n + 1) _ ∙ ap (λ cs. Ok (record { nearest = None; second = None; calls = cs })) (sym (append-nil before))
@@ -123,7 +123,7 @@ asked_back n before (c ∷ calls) s =
     ∙ asked_back (n + 1) (before ++ (c ∷ [])) calls s.1
     ∙ ap (λ cs. Ok (record { nearest = None; second = None; calls = cs })) (append_assoc before (c ∷ []) calls)
 
-pub log_back : (calls : List Call) → All Sized calls → length (plain_log calls) ≤ 65536 → asked_in (plain_log calls) ≡ Ok (record { nearest = None; second = None; calls = calls })
+pub log_back : (calls : List Call) → AllByRecursion Sized calls → length (plain_log calls) ≤ 65536 → asked_in (plain_log calls) ≡ Ok (record { nearest = None; second = None; calls = calls })
 unfolding asked_in
 log_back calls s h = cond-false _ _ _ (le-ltb 65536 (length (plain_log calls)) h) ∙ asked_back 1 [] calls s
 

@@ -2,7 +2,7 @@
 use Rattle.std.proofs.Common.{◌≡◌, ℕ, ◌+◌, ◌<◌, ◌≤◌, true, ltb, List, [], ◌∷◌, map, length, take, drop, Ok, Err, Result, sym, refl, ap, ◌∙◌, subst, ⊎_elim, arith}
 use Rattle.std.proofs.lemmas.List.{length-map, take_at}
 use Rattle.std.proofs.lemmas.Bool.{cases_lt, cond-false, cond-true, le-ltb, lt-ltb}
-use Rattle.std.specs.List.{AllByRecursion as All}
+use Rattle.std.specs.List.{AllByRecursion}
 use Rattle.refusals.specs.declared.Refusal.{Refusal}
 use Rattle.refusals.specs.declared.Refusal.TheVariants.{CountsOutside, TooShort}
 use Rattle.sources.specs.Meaning.{Meaning, Rising, Sound}
@@ -22,7 +22,7 @@ lower h low high [] l r = tt
 lower h low high (e ∷ es) l r = let a = r.0.rises in (record { rises = omega arith; known = r.0.known; some = r.0.some; within = r.0.within }, r.1)
 
 -- a row of a source, without its zero entries, is within the layout
-kept_in : (h : Heading) (low : ℕ) (row : Row) → Rising low row → All (λ e. e.0 < h.jobs) row → All (λ e. e.1 ≤ h.ceiling) row → RowIn h low (nonzero row)
+kept_in : (h : Heading) (low : ℕ) (row : Row) → Rising low row → AllByRecursion (λ e. e.0 < h.jobs) row → AllByRecursion (λ e. e.1 ≤ h.ceiling) row → RowIn h low (nonzero row)
 kept_in h low [] r k w = tt
 kept_in h low (e ∷ es) r k w =
     let rest = kept_in h (e.0 + 1) es r.1 k.1 w.1 in
@@ -32,7 +32,7 @@ kept_in h low (e ∷ es) r k w =
     (λ none. subst (RowIn h low) (sym (cond-false (ltb 0 e.1) (e ∷ nonzero es) (nonzero es) (le-ltb 0 e.1 none))) (lower h low (e.0 + 1) (nonzero es) (omega arith) rest))
     (cases_lt 0 e.1)
 
-all_kept_in : (h : Heading) (rows : List Row) → All (Rising 0) rows → All (All (λ e. e.0 < h.jobs)) rows → All (All (λ e. e.1 ≤ h.ceiling)) rows → All (RowIn h 0) (map nonzero rows)
+all_kept_in : (h : Heading) (rows : List Row) → AllByRecursion (Rising 0) rows → AllByRecursion (AllByRecursion (λ e. e.0 < h.jobs)) rows → AllByRecursion (AllByRecursion (λ e. e.1 ≤ h.ceiling)) rows → AllByRecursion (RowIn h 0) (map nonzero rows)
 all_kept_in h [] r k w = tt
 all_kept_in h (row ∷ rows) r k w = (kept_in h 0 row r.0 k.0 w.0, all_kept_in h rows r.1 k.1 w.1)
 
@@ -45,7 +45,7 @@ pub no_zeros : (h : Heading) (low : ℕ) (row : Row) → RowIn h low row → non
 no_zeros h low [] r = refl
 no_zeros h low (e ∷ es) r = let a = r.0.some in cond-true (ltb 0 e.1) (e ∷ nonzero es) (nonzero es) (lt-ltb 0 e.1 (omega arith)) ∙ ap (λ l. e ∷ l) (no_zeros h (e.0 + 1) es r.1)
 
-pub no_zeros_in : (h : Heading) (rows : List Row) → All (RowIn h 0) rows → map nonzero rows ≡ rows
+pub no_zeros_in : (h : Heading) (rows : List Row) → AllByRecursion (RowIn h 0) rows → map nonzero rows ≡ rows
 no_zeros_in h [] r = refl
 no_zeros_in h (row ∷ rows) r = ap (λ x. x ∷ map nonzero rows) (no_zeros h 0 row r.0) ∙ ap (λ l. row ∷ l) (no_zeros_in h rows r.1)
 

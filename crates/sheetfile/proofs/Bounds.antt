@@ -1,7 +1,7 @@
 -- The bounds of a sheet, number by number.
 use Rattle.std.proofs.Common.{◌≡◌, ℕ, ◌+◌, ◌^◌, ◌<◌, ◌≤◌, true, ◌&&◌, leb, List, [], ◌∷◌, length, arith}
 use Rattle.std.proofs.lemmas.Bool.{and_from, and_parts, le-leb, leb-true}
-use Rattle.std.specs.List.{AllByRecursion as All}
+use Rattle.std.specs.List.{AllByRecursion}
 use Rattle.sources.specs.Meaning.{Meaning, Rising}
 use Rattle.sources.specs.Sheets.{within_limits}
 use Rattle.sources.specs.Tables.{Fillable, heading_of}
@@ -30,7 +30,7 @@ RowIn h low (e ∷ es) = EntryIn h low e × RowIn h (e.0 + 1) es
 pub record Bounded (m : Meaning) : Type 0 where
   pub headed : HeadingIn (heading_of m)
   pub counted : length m.rows ≡ m.carriers
-  pub good : All (RowIn (heading_of m) 0) m.rows
+  pub good : AllByRecursion (RowIn (heading_of m) 0) m.rows
 
 -- the limits of a heading, as a test and as facts
 pub limits : (h : Heading) → within_limits h ≡ true → HeadingIn h
@@ -47,11 +47,11 @@ from_limits h g =
     (and_from (leb 1 h.jobs && leb h.jobs 256) (leb h.ceiling (2 ^ 36)) (from-between 1 h.jobs 256 g.jobs_low g.jobs_high) (le-leb h.ceiling (2 ^ 36) g.ceiling_high))
 
 -- a row by its properties, and entry by entry
-row_in : (h : Heading) (low : ℕ) (row : Row) → Rising low row → All (λ e. e.0 < h.jobs) row → All (λ e. 1 ≤ e.1) row → All (λ e. e.1 ≤ h.ceiling) row → RowIn h low row
+row_in : (h : Heading) (low : ℕ) (row : Row) → Rising low row → AllByRecursion (λ e. e.0 < h.jobs) row → AllByRecursion (λ e. 1 ≤ e.1) row → AllByRecursion (λ e. e.1 ≤ h.ceiling) row → RowIn h low row
 row_in h low [] r k s w = tt
 row_in h low (e ∷ es) r k s w = (record { rises = r.0; known = k.0; some = s.0; within = w.0 }, row_in h (e.0 + 1) es r.1 k.1 s.1 w.1)
 
-rows_in : (h : Heading) (rows : List Row) → All (Rising 0) rows → All (All (λ e. e.0 < h.jobs)) rows → All (All (λ e. 1 ≤ e.1)) rows → All (All (λ e. e.1 ≤ h.ceiling)) rows → All (RowIn h 0) rows
+rows_in : (h : Heading) (rows : List Row) → AllByRecursion (Rising 0) rows → AllByRecursion (AllByRecursion (λ e. e.0 < h.jobs)) rows → AllByRecursion (AllByRecursion (λ e. 1 ≤ e.1)) rows → AllByRecursion (AllByRecursion (λ e. e.1 ≤ h.ceiling)) rows → AllByRecursion (RowIn h 0) rows
 rows_in h [] r k s w = tt
 rows_in h (row ∷ rows) r k s w = (row_in h 0 row r.0 k.0 s.0 w.0, rows_in h rows r.1 k.1 s.1 w.1)
 
@@ -66,11 +66,11 @@ rises_in : (h : Heading) (low : ℕ) (row : Row) → RowIn h low row → Rising 
 rises_in h low [] r = tt
 rises_in h low (e ∷ es) r = (r.0.rises, rises_in h (e.0 + 1) es r.1)
 
-each_in : (P : ℕ × ℕ → Type 0) (h : Heading) → ((low : ℕ) (e : ℕ × ℕ) → EntryIn h low e → P e) → (low : ℕ) (row : Row) → RowIn h low row → All P row
+each_in : (P : ℕ × ℕ → Type 0) (h : Heading) → ((low : ℕ) (e : ℕ × ℕ) → EntryIn h low e → P e) → (low : ℕ) (row : Row) → RowIn h low row → AllByRecursion P row
 each_in P h p low [] r = tt
 each_in P h p low (e ∷ es) r = (p low e r.0, each_in P h p (e.0 + 1) es r.1)
 
-every_row : (P : Row → Type 0) (h : Heading) → ((row : Row) → RowIn h 0 row → P row) → (rows : List Row) → All (RowIn h 0) rows → All P rows
+every_row : (P : Row → Type 0) (h : Heading) → ((row : Row) → RowIn h 0 row → P row) → (rows : List Row) → AllByRecursion (RowIn h 0) rows → AllByRecursion P rows
 every_row P h p [] r = tt
 every_row P h p (row ∷ rows) r = (p row r.0, every_row P h p rows r.1)
 
@@ -82,10 +82,10 @@ fillable m b =
       sound = record {
         counted = b.counted;
         rising = every_row (Rising 0) (heading_of m) (rises_in (heading_of m) 0) m.rows b.good;
-        known = every_row (All (λ e. e.0 < m.jobs)) h (each_in (λ e. e.0 < m.jobs) (heading_of m) (λ low e i. i.known) 0) m.rows b.good;
-        within = every_row (All (λ e. e.1 ≤ m.ceiling)) h (each_in (λ e. e.1 ≤ m.ceiling) (heading_of m) (λ low e i. i.within) 0) m.rows b.good;
+        known = every_row (AllByRecursion (λ e. e.0 < m.jobs)) h (each_in (λ e. e.0 < m.jobs) (heading_of m) (λ low e i. i.known) 0) m.rows b.good;
+        within = every_row (AllByRecursion (λ e. e.1 ≤ m.ceiling)) h (each_in (λ e. e.1 ≤ m.ceiling) (heading_of m) (λ low e i. i.within) 0) m.rows b.good;
         small = omega arith;
       };
       limited = from_limits (heading_of m) b.headed;
-      nonzero = every_row (All (λ e. 1 ≤ e.1)) h (each_in (λ e. 1 ≤ e.1) (heading_of m) (λ low e i. i.some) 0) m.rows b.good;
+      nonzero = every_row (AllByRecursion (λ e. 1 ≤ e.1)) h (each_in (λ e. 1 ≤ e.1) (heading_of m) (λ low e i. i.some) 0) m.rows b.good;
     }

@@ -3,7 +3,7 @@ use Rattle.std.proofs.Common.{◌≡◌, ℕ, zero, suc, ◌+◌, ◌*◌, ◌^�
 use Rattle.std.proofs.lemmas.List.{append_assoc, append-nil, drop_all, drop_at, drop-drop, length-drop}
 use Rattle.std.proofs.lemmas.Result.{IfOk-at_ok}
 use Rattle.std.proofs.lemmas.Bool.{eq-eqb, eqb-true, le-leb, leb-true}
-use Rattle.std.specs.List.{flat_map, AllByRecursion as All}
+use Rattle.std.specs.List.{flat_map, AllByRecursion}
 use Rattle.refusals.specs.Faults.{fault_at, fault_of}
 use Rattle.refusals.specs.declared.Refusal.TheVariants.{BytesFollow, CountsOutside, JobOutOfOrder, TooShort, TotalDiffers, WorthOutside}
 use Rattle.numbers.proofs.Exact.{exactly, reads}
@@ -100,10 +100,10 @@ module _ (bs : List ℕ) (typed : (i : ℕ) → Fits w8 (get_or bs i 0)) where
       (chained (drop at bs) (encoded (length x.0)) (drop f.0.1 bs) (flat_map entry_bytes x.0) (drop x.1 bs) (a.0 ∙ ap (λ n. encoded n ++ drop f.0.1 bs) (sym i.2)) i.0, i.1)
 
   rows_read : (h : Heading) (room n used at : ℕ) (x : List Row × ℕ) → rows_from bs h room n used at ≡ Ok x → used ≤ room
-      → (drop at bs ≡ flat_map row_bytes x.0 ++ drop x.1 bs) × All (RowIn h 0) x.0 × (length x.0 ≡ n) × (used + entries_in x.0 ≤ room)
+      → (drop at bs ≡ flat_map row_bytes x.0 ++ drop x.1 bs) × AllByRecursion (RowIn h 0) x.0 × (length x.0 ≡ n) × (used + entries_in x.0 ≤ room)
   unfolding rows_from
   rows_read h room zero used at x is fits =
-      subst (λ (y : List Row × ℕ). (drop at bs ≡ flat_map row_bytes y.0 ++ drop y.1 bs) × All (RowIn h 0) y.0 × (length y.0 ≡ 0) × (used + entries_in y.0 ≤ room)) (ok_same ([], at) x is) (refl, tt, refl, omega arith)
+      subst (λ (y : List Row × ℕ). (drop at bs ≡ flat_map row_bytes y.0 ++ drop y.1 bs) × AllByRecursion (RowIn h 0) y.0 × (length y.0 ≡ 0) × (used + entries_in y.0 ≤ room)) (ok_same ([], at) x is) (refl, tt, refl, omega arith)
   rows_read h room (suc n) used at x is fits =
       let f = followed (row_in bs h room used at) (λ r. prefixed (r.0 ∷ []) (rows_from bs h room n (used + length r.0) r.1)) x is in
       let k = followed (row_from bs h at) (λ r. room_for (fault_of TooShort) (used + length r.0) room r) f.0 f.1 in
@@ -112,7 +112,7 @@ module _ (bs : List ℕ) (typed : (i : ℕ) → Fits w8 (get_or bs i 0)) where
       let g = fronts (f.0.0 ∷ []) (rows_from bs h room n (used + length f.0.0) f.0.1) x f.2 in
       let a = row_read h at f.0 (k.1 ∙ ap (λ (y : Row × ℕ). Ok y) t.1) in
       let i = rows_read h room n (used + length f.0.0) f.0.1 g.0 g.1 fit in
-      subst (λ (y : List Row × ℕ). (drop at bs ≡ flat_map row_bytes y.0 ++ drop y.1 bs) × All (RowIn h 0) y.0 × (length y.0 ≡ suc n) × (used + entries_in y.0 ≤ room)) (sym g.2)
+      subst (λ (y : List Row × ℕ). (drop at bs ≡ flat_map row_bytes y.0 ++ drop y.1 bs) × AllByRecursion (RowIn h 0) y.0 × (length y.0 ≡ suc n) × (used + entries_in y.0 ≤ room)) (sym g.2)
       (chained (drop at bs) (row_bytes f.0.0) (drop f.0.1 bs) (flat_map row_bytes g.0.0) (drop g.0.1 bs) a.0 i.0, (a.1, i.1), ap suc i.2, omega (arith, i.3))
 
   closed_read : (used at : ℕ) (x : Unit {0}) → closed_at bs used at ≡ Ok x → drop at bs ≡ encoded used
@@ -147,7 +147,7 @@ pub row_short : (h : Heading) (low : ℕ) (row : Row) → RowIn h low row → lo
 row_short h low [] r l = omega arith
 row_short h low (e ∷ es) r l = let a = r.0.rises in let b = r.0.known in let i = row_short h (e.0 + 1) es r.1 (omega arith) in omega arith
 
-pub rows_short : (h : Heading) (rows : List Row) → All (RowIn h 0) rows → h.jobs ≤ 256 → entries_in rows ≤ 256 * length rows
+pub rows_short : (h : Heading) (rows : List Row) → AllByRecursion (RowIn h 0) rows → h.jobs ≤ 256 → entries_in rows ≤ 256 * length rows
 rows_short h [] r l = omega arith
 rows_short h (row ∷ rows) r l = let a = row_short h 0 row r.0 (omega arith) in let i = rows_short h rows r.1 l in omega arith
 
@@ -214,7 +214,7 @@ module _ (bs : List ℕ) where
         let q = entries_back 0 p.0 row rest r p.2 in
         (q.0, follows (read_at bs at) (λ n. entries_from bs h n.0 0 n.1) (length row, p.0) (Ok (row, q.0)) p.1 q.1, q.2)
 
-    rows_back : (room used at : ℕ) (rows : List Row) (rest : List ℕ) → All (RowIn h 0) rows → used + entries_in rows ≤ room → drop at bs ≡ flat_map row_bytes rows ++ rest → (next : ℕ) × (rows_from bs h room (length rows) used at ≡ Ok (rows, next)) × (drop next bs ≡ rest)
+    rows_back : (room used at : ℕ) (rows : List Row) (rest : List ℕ) → AllByRecursion (RowIn h 0) rows → used + entries_in rows ≤ room → drop at bs ≡ flat_map row_bytes rows ++ rest → (next : ℕ) × (rows_from bs h room (length rows) used at ≡ Ok (rows, next)) × (drop next bs ≡ rest)
     unfolding rows_from
     rows_back room used at [] rest r fits e = (at, refl, e)
     rows_back room used at (row ∷ rows) rest r fits e =

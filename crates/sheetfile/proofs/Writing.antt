@@ -4,7 +4,7 @@ use Rattle.std.proofs.lemmas.List.Elements.{filter_more}
 use Rattle.std.proofs.ByRecursion.{All-from_get_or}
 use Rattle.std.proofs.lemmas.List.{append-nil, get_or_past, flat_map_more, length-append, length_push, map_more, take_more}
 use Rattle.std.proofs.lemmas.Bool.{and_from, cases_lt, cond_both, cond-false, cond-true, le-leb, le-ltb, lt-ltb}
-use Rattle.std.specs.List.{flat_map, AllByRecursion as All}
+use Rattle.std.specs.List.{flat_map, AllByRecursion}
 use Rattle.refusals.specs.declared.Refusal.{Refusal}
 use Rattle.refusals.specs.declared.Refusal.TheVariants.{TooShort}
 use Rattle.numbers.proofs.Groups.{encoded_few}
@@ -107,7 +107,7 @@ parts_all (e ∷ es) =
     (λ none. let t = le-ltb 0 e.1 none in ap (λ l. l ++ flat_map nonzero_bytes es) (part_none e none) ∙ parts_all es ∙ ap (flat_map entry_bytes) (sym (cond-false (ltb 0 e.1) (e ∷ nonzero es) (nonzero es) t)))
     (cases_lt 0 e.1)
 
-pub parts_short : (row : Row) → All Small row → length (flat_map nonzero_bytes row) ≤ 12 * length row
+pub parts_short : (row : Row) → AllByRecursion Small row → length (flat_map nonzero_bytes row) ≤ 12 * length row
 parts_short [] s = omega arith
 parts_short (e ∷ es) s = let n = length-append (nonzero_bytes e) (flat_map nonzero_bytes es) in let p = part_short e s.0 in let i = parts_short es s.1 in omega arith
 
@@ -122,16 +122,16 @@ heading_short h g =
 
 -- rows of at most 256 entries, with small numbers
 abbrev pub Light : Row → Type 0
-Light row = (length row ≤ 256) × All Small row
+Light row = (length row ≤ 256) × AllByRecursion Small row
 
-row_small : (jobs ceiling : ℕ) → jobs ≤ 256 → ceiling ≤ 2 ^ 36 → (row : Row) → All (λ e. e.0 < jobs) row → All (λ e. e.1 ≤ ceiling) row → All Small row
+row_small : (jobs ceiling : ℕ) → jobs ≤ 256 → ceiling ≤ 2 ^ 36 → (row : Row) → AllByRecursion (λ e. e.0 < jobs) row → AllByRecursion (λ e. e.1 ≤ ceiling) row → AllByRecursion Small row
 row_small jobs ceiling j c [] k w = tt
 row_small jobs ceiling j c (e ∷ es) k w = let a = k.0 in let b = w.0 in ((omega arith, omega arith), row_small jobs ceiling j c es k.1 w.1)
 
 pub row_light : (m : Meaning) → Sound m → m.jobs ≤ 256 → m.ceiling ≤ 2 ^ 36 → (i : ℕ) → Light (row_of m i)
 row_light m s j c i = (omega (arith, row_length m s i), row_small m.jobs m.ceiling j c (row_of m i) (row_known m s i) (row_within m s i))
 
-pub rows_light : (m : Meaning) → Sound m → m.jobs ≤ 256 → m.ceiling ≤ 2 ^ 36 → All Light m.rows
+pub rows_light : (m : Meaning) → Sound m → m.jobs ≤ 256 → m.ceiling ≤ 2 ^ 36 → AllByRecursion Light m.rows
 rows_light m s j c = All-from_get_or Light m.rows [] (λ i l. row_light m s j c i)
 
 bytes_short : (row : Row) → Light row → length (row_bytes (nonzero row)) ≤ 6 + 12 * length row
@@ -140,12 +140,12 @@ bytes_short row light =
     let n = length-append (encoded (length (nonzero row))) (flat_map entry_bytes (nonzero row)) in
     let p = encoded_short (length (nonzero row)) (omega arith) in let i = parts_short row light.1 in let e = ap length (parts_all row) in omega arith
 
-pub file_short : (rows : List Row) → All Light rows → length (flat_map row_bytes (map nonzero rows)) ≤ 3078 * length rows
+pub file_short : (rows : List Row) → AllByRecursion Light rows → length (flat_map row_bytes (map nonzero rows)) ≤ 3078 * length rows
 file_short [] all = omega arith
 file_short (row ∷ rows) all =
     let n = length-append (row_bytes (nonzero row)) (flat_map row_bytes (map nonzero rows)) in let a = all.0.0 in let b = bytes_short row all.0 in let i = file_short rows all.1 in omega arith
 
-pub entries_few : (rows : List Row) → All Light rows → entries_in (map nonzero rows) ≤ 256 * length rows
+pub entries_few : (rows : List Row) → AllByRecursion Light rows → entries_in (map nonzero rows) ≤ 256 * length rows
 entries_few [] all = omega arith
 entries_few (row ∷ rows) all = let a = all.0.0 in let b = kept_short row in let i = entries_few rows all.1 in omega arith
 

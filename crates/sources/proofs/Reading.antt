@@ -1,7 +1,7 @@
 -- What a reader of any source may rely on: its rows, entry by entry.
 use Rattle.std.proofs.Common.{◌≡◌, ℕ, zero, suc, ◌+◌, ◌<◌, ◌≤◌, List, [], ◌∷◌, length, get_or, Some, None, sym, refl, ◌∙◌, subst, arith}
 use Rattle.std.specs.Option.{option_map}
-use Rattle.std.specs.List.{slice_get, AllByRecursion as All}
+use Rattle.std.specs.List.{slice_get, AllByRecursion}
 use Rattle.sources.specs.Meaning.{Meaning, Sound, Rising, chosen, row_len, entry_at, row_of}
 
 -- ---- the length of a row, and its entries
@@ -65,7 +65,7 @@ entry_past m i k h = nth_none (row_of m i) k (entry_none m i k h)
 
 -- ---- what soundness says of a row
 
-all_row : (P : List (ℕ × ℕ) → Type 0) → P [] → (rows : List (List (ℕ × ℕ))) (i : ℕ) → All P rows → P (get_or rows i [])
+all_row : (P : List (ℕ × ℕ) → Type 0) → P [] → (rows : List (List (ℕ × ℕ))) (i : ℕ) → AllByRecursion P rows → P (get_or rows i [])
 all_row P none [] i h = none
 all_row P none (row ∷ rows) zero h = h.0
 all_row P none (row ∷ rows) (suc i) h = all_row P none rows i h.1
@@ -74,13 +74,13 @@ module _ (m : Meaning) (s : Sound m) (i : ℕ) where
   pub row_rising : Rising 0 (row_of m i)
   row_rising = all_row (Rising 0) tt m.rows i s.rising
 
-  pub row_known : All (λ e. e.0 < m.jobs) (row_of m i)
-  row_known = all_row (All (λ e. e.0 < m.jobs)) tt m.rows i s.known
+  pub row_known : AllByRecursion (λ e. e.0 < m.jobs) (row_of m i)
+  row_known = all_row (AllByRecursion (λ e. e.0 < m.jobs)) tt m.rows i s.known
 
-  pub row_within : All (λ e. e.1 ≤ m.ceiling) (row_of m i)
-  row_within = all_row (All (λ e. e.1 ≤ m.ceiling)) tt m.rows i s.within
+  pub row_within : AllByRecursion (λ e. e.1 ≤ m.ceiling) (row_of m i)
+  row_within = all_row (AllByRecursion (λ e. e.1 ≤ m.ceiling)) tt m.rows i s.within
 
-all_nth : (P : ℕ × ℕ → Type 0) (row : List (ℕ × ℕ)) (k : ℕ) (e : ℕ × ℕ) → slice_get row k ≡ Some e → All P row → P e
+all_nth : (P : ℕ × ℕ → Type 0) (row : List (ℕ × ℕ)) (k : ℕ) (e : ℕ × ℕ) → slice_get row k ≡ Some e → AllByRecursion P row → P e
 all_nth P [] k e h a = let z : ◌≡◌ {A = ℕ} 0 1 = cc in absurd (omega arith)
 all_nth P (x ∷ row) zero e h a = let q : x ≡ e = cc in subst P q a.0
 all_nth P (x ∷ row) (suc k) e h a = all_nth P row k e h a.1
@@ -93,7 +93,7 @@ module _ (m : Meaning) (s : Sound m) (i k job worth : ℕ) (read : Some (job, wo
   entry_within = all_nth (λ e. e.1 ≤ m.ceiling) (row_of m i) k (job, worth) (entry_some m i k (job, worth) read) (row_within m s i)
 
 -- a row is no longer than there are jobs
-rising_length : (jobs low : ℕ) (row : List (ℕ × ℕ)) → Rising low row → All (λ e. e.0 < jobs) row → low ≤ jobs → low + length row ≤ jobs
+rising_length : (jobs low : ℕ) (row : List (ℕ × ℕ)) → Rising low row → AllByRecursion (λ e. e.0 < jobs) row → low ≤ jobs → low + length row ≤ jobs
 rising_length jobs low [] r a l = omega arith
 rising_length jobs low (e ∷ es) r a l = let i = rising_length jobs (e.0 + 1) es r.1 a.1 (omega arith) in let h = r.0 in omega arith
 

@@ -2,7 +2,7 @@
 use Rattle.std.proofs.Common.{◌≡◌, ℕ, zero, suc, ◌+◌, ◌-◌, ◌<◌, ◌≤◌, Bool, true, false, cond, ◌&&◌, eqb, ltb, leb, ◌⊎◌, List, [], ◌∷◌, ◌++◌, map, length, get_or, take, drop, is_some, is_ok, Some, None, Ok, Option, Result, sym, refl, ap, ◌∙◌, subst, inl, inr, ⊎_elim, add-one, arith, take-add}
 use mathlib.Core.List.{map-map}
 use native.Mathlib.Nat.{sub_self}
-use Rattle.std.specs.List.{range_with_len, AllByRecursion as All}
+use Rattle.std.specs.List.{range_with_len, AllByRecursion}
 use Rattle.std.proofs.lemmas.List.{append_assoc, drop_all, drop_at, drop-drop, drop_more, get_or-append-add, get_or_append_left, get_or-map, length-append, length-map, map-id, take-append-drop, take_at}
 use Rattle.std.proofs.lemmas.List.FromFn.{fill_by_all}
 use Rattle.std.proofs.ByRecursion.{All-append, All-get_or}
@@ -41,11 +41,11 @@ ends_last u (row ∷ rows) =
 abbrev Fine : Meaning → Entry → Type 0
 Fine m e = (e.job < m.jobs) × (1 ≤ e.worth) × (e.worth ≤ m.ceiling)
 
-row_fine : (m : Meaning) (row : List (ℕ × ℕ)) → All (λ e. e.0 < m.jobs) row → All (λ e. 1 ≤ e.1) row → All (λ e. e.1 ≤ m.ceiling) row → All (Fine m) (map entry_of row)
+row_fine : (m : Meaning) (row : List (ℕ × ℕ)) → AllByRecursion (λ e. e.0 < m.jobs) row → AllByRecursion (λ e. 1 ≤ e.1) row → AllByRecursion (λ e. e.1 ≤ m.ceiling) row → AllByRecursion (Fine m) (map entry_of row)
 row_fine m [] a b c = tt
 row_fine m (e ∷ es) a b c = ((a.0, b.0, c.0), row_fine m es a.1 b.1 c.1)
 
-rows_fine : (m : Meaning) (rows : List (List (ℕ × ℕ))) → All (All (λ e. e.0 < m.jobs)) rows → All (All (λ e. 1 ≤ e.1)) rows → All (All (λ e. e.1 ≤ m.ceiling)) rows → All (Fine m) (entries_of rows)
+rows_fine : (m : Meaning) (rows : List (List (ℕ × ℕ))) → AllByRecursion (AllByRecursion (λ e. e.0 < m.jobs)) rows → AllByRecursion (AllByRecursion (λ e. 1 ≤ e.1)) rows → AllByRecursion (AllByRecursion (λ e. e.1 ≤ m.ceiling)) rows → AllByRecursion (Fine m) (entries_of rows)
 rows_fine m [] a b c = tt
 rows_fine m (row ∷ rows) a b c = All-append (Fine m) (map entry_of row) (entries_of rows) (row_fine m row a.0 b.0 c.0) (rows_fine m rows a.1 b.1 c.1)
 
@@ -54,7 +54,7 @@ job_at_lem pre row tail j l =
     let n = length-map row entry_of in
     ap (λ (e : Entry). e.job) (get_or-append-add pre (map entry_of row ++ tail) j no_entry ∙ get_or_append_left (map entry_of row) tail no_entry j (omega arith) ∙ get_or-map entry_of row j (0, 0) no_entry l)
 
-in_order_lem : (rows : List (List (ℕ × ℕ))) → All (Rising 0) rows → (pre : List Entry) (u k : ℕ) → length pre ≡ u → u ≤ k → k < u + length (entries_of rows)
+in_order_lem : (rows : List (List (ℕ × ℕ))) → AllByRecursion (Rising 0) rows → (pre : List Entry) (u k : ℕ) → length pre ≡ u → u ≤ k → k < u + length (entries_of rows)
     → (has_start (u ∷ ends_of u rows) k ≡ true) ⊎ (job_at (pre ++ entries_of rows) (k - 1) < job_at (pre ++ entries_of rows) k)
 in_order_lem [] r pre u k long low high = absurd (omega arith)
 in_order_lem (row ∷ rows) r pre u k long low high =

@@ -1,7 +1,7 @@
 -- What a source means: how many carriers and jobs it has, its ceiling, and a row of (job, worth) pairs for each carrier.
 use Rattle.std.specs.Prelude.{◌≡◌, ℕ, ◌+◌, ◌^◌, ◌<◌, ◌≤◌, cond, List, [], ◌∷◌, length, Some, None, Option, ◌==◌, slice_index_or}
 use Rattle.std.specs.Option.{option_map}
-use Rattle.std.specs.List.{slice_get, AllByRecursion as All}
+use Rattle.std.specs.List.{slice_get, AllByRecursion}
 
 pub record Meaning : Type 0 where
   pub carriers : ℕ
@@ -22,9 +22,9 @@ Rising low (e ∷ es) = (low ≤ e.0) × Rising (e.0 + 1) es
 -- number of jobs, no worth above the ceiling, and no ceiling above 2 ^ 60.
 pub record Sound (m : Meaning) : Type 0 where
   pub counted : length m.rows ≡ m.carriers
-  pub rising : All (Rising 0) m.rows
-  pub known : All (All (λ e. e.0 < m.jobs)) m.rows
-  pub within : All (All (λ e. e.1 ≤ m.ceiling)) m.rows
+  pub rising : AllByRecursion (Rising 0) m.rows
+  pub known : AllByRecursion (AllByRecursion (λ e. e.0 < m.jobs)) m.rows
+  pub within : AllByRecursion (AllByRecursion (λ e. e.1 ≤ m.ceiling)) m.rows
   pub small : m.ceiling ≤ 2 ^ 60
 
 -- What f makes of a value that is there; nothing of one that is not.

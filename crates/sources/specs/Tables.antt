@@ -1,6 +1,6 @@
 -- The heading and the two tables that hold a meaning, and what filling accepts.
 use Rattle.std.specs.Prelude.{◌≡◌, ℕ, ◌+◌, ◌≤◌, true, List, [], ◌∷◌, ◌++◌, map, length, is_ok, Ok, Result}
-use Rattle.std.specs.List.{flat_map, AllByRecursion as All}
+use Rattle.std.specs.List.{flat_map, AllByRecursion}
 use Rattle.refusals.specs.declared.Refusal.{Refusal}
 use Rattle.sources.specs.declared.form.Entry.{Entry}
 use Rattle.sources.specs.declared.form.Heading.{Heading}
@@ -36,7 +36,7 @@ pub record TablesOf (m : Meaning) (h : Heading) (starts : List ℕ) (entries : L
 pub record Fillable (m : Meaning) : Type 0 where
   pub sound : Sound m
   pub limited : within_limits (heading_of m) ≡ true
-  pub nonzero : All (All (λ e. 1 ≤ e.1)) m.rows
+  pub nonzero : AllByRecursion (AllByRecursion (λ e. 1 ≤ e.1)) m.rows
 
 -- Filling accepts exactly the tables of such a meaning, and the sheet then means it.
 pub record FillsExactly (h : Heading) (starts : List ℕ) (entries : List Entry) (answer : Result (Unit {0}) Refusal) (after : Meaning) : Type 0 where

@@ -1,7 +1,7 @@
 -- A list made from a function of the index, read by nth.
 use Rattle.std.specs.Prelude.{◌≡◌, ℕ, ◌<◌, ◌≤◌, map, length, Some, None}
 use Rattle.std.proofs.Common.{sym, ap, subst, ◌∙◌, arith}
-use Rattle.std.specs.List.{slice_get, range_with_len, AllByRecursion as All}
+use Rattle.std.specs.List.{slice_get, range_with_len, AllByRecursion}
 use Rattle.std.proofs.lemmas.Option.{slice_get-get_or, slice_get_past}
 use Rattle.std.proofs.lemmas.List.FromFn.{length-map-range_with_len, get_or-map-range_with_len}
 use Rattle.std.proofs.ByRecursion.{All-from_get_or}
@@ -15,7 +15,7 @@ module _ {X : Type 0} (f : ℕ → X) (n : ℕ) where
   pub nth_not_made : (i : ℕ) → n ≤ i → slice_get (map f (range_with_len 0 n)) i ≡ None
   nth_not_made i l = slice_get_past (map f (range_with_len 0 n)) i (rw length-map-range_with_len l)
 
-  pub all_made : (P : X → Type 0) → ((i : ℕ) → i < n → P (f i)) → All P (map f (range_with_len 0 n))
+  pub all_made : (P : X → Type 0) → ((i : ℕ) → i < n → P (f i)) → AllByRecursion P (map f (range_with_len 0 n))
   all_made P h =
       All-from_get_or P (map f (range_with_len 0 n)) (f 0) (λ i l.
       let k : i < n = rw length-map-range_with_len at l in

@@ -2,7 +2,7 @@
 use Rattle.std.specs.Prelude.{◌≡◌, ℕ, zero, suc, ◌+◌, ◌^◌, ◌<◌, ◌≤◌, List, [], ◌∷◌, map, length, Some, None, Option, nat_lt, refl}
 use Rattle.std.proofs.Common.{sym, ap, ◌∙◌, arith, mul-le-mul_left}
 use Rattle.std.specs.Option.{option_map}
-use Rattle.std.specs.List.{slice_get, AllByRecursion as All}
+use Rattle.std.specs.List.{slice_get, AllByRecursion}
 use Rattle.std.proofs.lemmas.Bool.{cond_both}
 use Rattle.std.proofs.lemmas.List.{length-map}
 use Rattle.std.proofs.ByRecursion.{All-map, All-weaker}
@@ -45,8 +45,8 @@ module _ (h : ℕ → ℕ) (c : ℕ) where
   revalued_sound m s up small = record {
     counted = length-map m.rows (revalued_row h) ∙ s.counted;
     rising = All-map (Rising 0) (revalued_row h) m.rows (All-weaker (Rising 0) (λ row. Rising 0 (revalued_row h row)) (rising_in 0) m.rows s.rising);
-    known = All-map (All (λ e. e.0 < m.jobs)) (revalued_row h) m.rows (All-weaker (All (λ e. e.0 < m.jobs)) (λ row. All (λ e. e.0 < m.jobs) (revalued_row h row)) (λ row k. All-map (λ e. e.0 < m.jobs) (revalued_entry h) row k) m.rows s.known);
-    within = All-map (All (λ e. e.1 ≤ c)) (revalued_row h) m.rows (All-weaker (All (λ e. e.1 ≤ m.ceiling)) (λ row. All (λ e. e.1 ≤ c) (revalued_row h row)) (λ row k. All-map (λ e. e.1 ≤ c) (revalued_entry h) row (All-weaker (λ e. e.1 ≤ m.ceiling) (λ e. h e.1 ≤ c) (λ e. up e.1) row k)) m.rows s.within);
+    known = All-map (AllByRecursion (λ e. e.0 < m.jobs)) (revalued_row h) m.rows (All-weaker (AllByRecursion (λ e. e.0 < m.jobs)) (λ row. AllByRecursion (λ e. e.0 < m.jobs) (revalued_row h row)) (λ row k. All-map (λ e. e.0 < m.jobs) (revalued_entry h) row k) m.rows s.known);
+    within = All-map (AllByRecursion (λ e. e.1 ≤ c)) (revalued_row h) m.rows (All-weaker (AllByRecursion (λ e. e.1 ≤ m.ceiling)) (λ row. AllByRecursion (λ e. e.1 ≤ c) (revalued_row h row)) (λ row k. All-map (λ e. e.1 ≤ c) (revalued_entry h) row (All-weaker (λ e. e.1 ≤ m.ceiling) (λ e. h e.1 ≤ c) (λ e. up e.1) row k)) m.rows s.within);
     small = small;
   }
 

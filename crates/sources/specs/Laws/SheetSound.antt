@@ -2,7 +2,7 @@
 use Rattle.std.specs.Prelude.{◌≡◌, ℕ, zero, suc, ◌+◌, ◌-◌, ◌^◌, ◌<◌, ◌≤◌, Bool, true, false, cond, ◌&&◌, ◌||◌, List, [], ◌∷◌, map, length, get_or, drop, is_some, Some, None, Decides, Option, ◌==◌, ◌≢◌, nat_eq, nat_le, nat_lt, slice_index, slice_index_or, refl}
 use Rattle.std.proofs.Common.{sym, ap, subst, ◌∙◌, ⊎_elim, arith, add-zero}
 use Rattle.std.specs.Option.{option_map}
-use Rattle.std.specs.List.{slice_get, HoldsAt, AllByRecursion as All}
+use Rattle.std.specs.List.{slice_get, HoldsAt, AllByRecursion}
 use Rattle.std.proofs.lemmas.List.{length-map, length-take, length-drop, get_or-take, get_or-drop}
 use Rattle.std.proofs.ByRecursion.{All-map, All-from_get_or}
 use Rattle.std.proofs.lemmas.List.FromFn.{length-map-range_with_len}
@@ -126,13 +126,13 @@ module _ (h : Heading) (starts : List ℕ) (entries : List Entry) (s : Started h
         (omega (arith, g.0, job), omega (arith, g.2, worth), omega (arith, g.3, worth))
 
   -- what holds of the pair at each place of each row holds of every pair
-  all_pairs : (P : ℕ × ℕ → Type 0) → ((i : ℕ) → i < h.carriers → (k : ℕ) → k < length (sheet_row starts entries i) → P (pair_of (slice_index_or (sheet_row starts entries i) k no_entry))) → All (All P) (sheet_of h starts entries).rows
+  all_pairs : (P : ℕ × ℕ → Type 0) → ((i : ℕ) → i < h.carriers → (k : ℕ) → k < length (sheet_row starts entries i) → P (pair_of (slice_index_or (sheet_row starts entries i) k no_entry))) → AllByRecursion (AllByRecursion P) (sheet_of h starts entries).rows
   all_pairs P each =
-      All-map (All P) (map pair_of) (sheet_rows h starts entries) (all_made (sheet_row starts entries) h.carriers (λ row. All P (map pair_of row))
+      All-map (AllByRecursion P) (map pair_of) (sheet_rows h starts entries) (all_made (sheet_row starts entries) h.carriers (λ row. AllByRecursion P (map pair_of row))
       (λ i l. All-map P pair_of (sheet_row starts entries i) (All-from_get_or (λ e. P (pair_of e)) (sheet_row starts entries i) no_entry (each i l))))
 
   -- a sheet has no entry of worth 0
-  pub sheet_nonzero : All (All (λ e. 1 ≤ e.1)) (sheet_of h starts entries).rows
+  pub sheet_nonzero : AllByRecursion (AllByRecursion (λ e. 1 ≤ e.1)) (sheet_of h starts entries).rows
   sheet_nonzero = all_pairs (λ e. 1 ≤ e.1) (λ i l k m. (row_good i l k m).1)
 
 low_ceiling : (h : Heading) → (within_limits h || blank h) ≡ true → h.ceiling ≤ 2 ^ 60

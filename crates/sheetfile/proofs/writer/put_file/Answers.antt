@@ -1,7 +1,7 @@
 use Rattle.std.proofs.Common.{◌≡◌, ℕ, ◌+◌, ◌^◌, ◌<◌, ◌≤◌, ◌++◌, map, length, take, sym, refl, ap, ◌∙◌, arith}
 use Rattle.std.proofs.ByRecursion.{All-take}
 use Rattle.std.proofs.lemmas.List.{length-take-le, take_all}
-use Rattle.std.specs.List.{flat_map, AllByRecursion as All}
+use Rattle.std.specs.List.{flat_map, AllByRecursion}
 use Rattle.numbers.specs.Groups.{encoded}
 use Rattle.sources.proofs.Reading.{row_length}
 use Rattle.sources.specs.Meaning.{Meaning, Sound, row_of}
@@ -28,7 +28,7 @@ module _ (m : Meaning) (s : Sound m) (h : Heading) (whose : h ≡ heading_of m) 
     front_long : length (take i m.rows) ≡ i
     front_long = length-take-le i m.rows (omega (arith, rows-there))
 
-    front-light : All Light (take i m.rows)
+    front-light : AllByRecursion Light (take i m.rows)
     front-light = All-take Light i m.rows (rows_light m s jobs-few ceiling-low)
 
     bytes-few : length (flat_map row_bytes (map nonzero (take i m.rows))) ≤ 393984
