@@ -1,8 +1,8 @@
 /*
  * A host in C: a sheet that is paired, sheets that are refused, and buffers that just fit and just do not.
  *
- *     rt staticlib pairing
- *     gcc -std=c11 -Wall -Wextra -O2 -Iinclude -o target/host examples/host.c target/staticlib/libpairing.a
+ *     tools/staticlib.sh /tmp
+ *     gcc -std=c11 -Wall -Wextra -O2 -Iinclude -o /tmp/host examples/host.c /tmp/libpairing.a
  *
  * tools/c_host.sh does that, runs it, and compares what it prints with examples/host.txt.
  */

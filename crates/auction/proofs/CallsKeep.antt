@@ -22,11 +22,7 @@ abbrev pub Holds : (Tally → Type 0) → Option Tally → Type 0
 Holds P None = Unit {0}
 Holds P (Some t) = P t
 
-module _ (m : Meaning) (P : Tally → Type 0) (calls : (t : Tally) (i : ℕ) (act : Act) → P t → P (called m i act t)) (settles : (t : Tally) (i : ℕ) → P t → P (settled m i t)) where
-  -- What an accepted start by this call leads to.
-  abbrev pub Starts : Call → Type 0
-  Starts c = (step lanes : ℕ) → c ≡ Start step lanes → start_answer step lanes m ≡ Ok tt → P (opened m.carriers m.jobs step lanes)
-
+module _ (m : Meaning) (P : Tally → Type 0) where
   once_holds : (f : Tally → Tally) → ((t : Tally) → P t → P (f t)) → (o : Option Tally) → Holds P o → Holds P (once f o)
   once_holds f k None h = tt
   once_holds f k (Some t) h = k t h
@@ -38,22 +34,34 @@ module _ (m : Meaning) (P : Tally → Type 0) (calls : (t : Tally) (i : ℕ) (ac
       go (Ok x) e = s e
       go (Err x) e = h
 
+module _ (m : Meaning) (P : Tally → Type 0) (calls : (t : Tally) (i : ℕ) (act : Act) → P t → P (called m i act t)) (settles : (t : Tally) (i : ℕ) → P t → P (settled m i t)) where
+  -- What an accepted start by this call leads to.
+  abbrev pub Starts : Call → Type 0
+  Starts c = (step lanes : ℕ) → c ≡ Start step lanes → start_answer step lanes m ≡ Ok tt → P (opened m.carriers m.jobs step lanes)
+
   run_holds : (depth budget : ℕ) (t : Tally) → P t → P (ran m depth budget t)
   unfolding ran beginning
   run_holds depth budget t h = cond_both {A = Tally} (between 1 128 depth) _ _ P (λ _. steps_hold m P calls settles depth budget (beginning m t) h) (λ _. h)
 
   pub call_holds : (o : Option Tally) (c : Call) → Starts c → Holds P o → Holds P (tally_by m o c)
   unfolding tally_by
-  call_holds o (Start step lanes) s h = start_holds step lanes (s step lanes refl) o h
-  call_holds o (Summon i) s h = once_holds (called m i Summons) (λ t. calls t i Summons) o h
-  call_holds o (Look i) s h = once_holds (called m i Looks) (λ t. calls t i Looks) o h
-  call_holds o (Settle i) s h = once_holds (settled m i) (λ t. settles t i) o h
-  call_holds o (Run depth budget) s h = once_holds (ran m depth budget) (run_holds depth budget) o h
+  call_holds o (Start step lanes) s h = start_holds m P step lanes (s step lanes refl) o h
+  call_holds o (Summon i) s h = once_holds m P (called m i Summons) (λ t. calls t i Summons) o h
+  call_holds o (Look i) s h = once_holds m P (called m i Looks) (λ t. calls t i Looks) o h
+  call_holds o (Settle i) s h = once_holds m P (settled m i) (λ t. settles t i) o h
+  call_holds o (Run depth budget) s h = once_holds m P (ran m depth budget) (run_holds depth budget) o h
   call_holds o (PriceOf j) s h = h
   call_holds o (HolderOf j) s h = h
   call_holds o (StandingOf i) s h = h
   call_holds o TotalWorth s h = h
   call_holds o AllCounts s h = h
+
+module _ (m : Meaning) where
+  pub once_keeps : (f : Tally → Tally) → ((t : Tally) → Invariant m t → Invariant m (f t)) → (o : Option Tally) → Holds (Invariant m) o → Holds (Invariant m) (once f o)
+  once_keeps f k o h = once_holds m (Invariant m) f k o h
+
+  pub start_keeps : (step lanes : ℕ) (o : Option Tally) → Holds (Invariant m) o → Holds (Invariant m) (start_tally step lanes m o)
+  start_keeps step lanes o h = start_holds m (Invariant m) step lanes (opened_invariant m step lanes) o h
 
 module _ (m : Meaning) (sound : Sound m) where
   calls_keep : (o : Option Tally) (calls : List Call) → Holds (Invariant m) o → Holds (Invariant m) (tally_from m o calls)

@@ -38,6 +38,7 @@ job_served (Bidding b) = None
 job_served (Served h) = Some h.job
 job_served Out = None
 
+-- Served or out.
 abbrev pub Done : Standing → Type 0
 Done Waiting = ⊥
 Done (Bidding b) = ⊥

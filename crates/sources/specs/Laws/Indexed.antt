@@ -1,4 +1,4 @@
--- A list made from a function of the index, read by nth.
+-- A list made from a function of the index, read by `slice_get`.
 use Rattle.std.specs.Prelude.{◌≡◌, ℕ, ◌<◌, ◌≤◌, map, length, Some, None}
 use Rattle.std.proofs.Common.{sym, ap, subst, ◌∙◌, arith}
 use Rattle.std.specs.List.{slice_get, range_with_len, AllByRecursion}
