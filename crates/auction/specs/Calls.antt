@@ -1,5 +1,6 @@
 -- Every call: what it answers, and the tally after it; and lists of calls.
-use Rattle.std.specs.Prelude.{ℕ, Bool, true, false, cond, ◌||◌, List, [], ◌∷◌, is_ok, Some, None, Ok, Err, fold, Option, Result, nat_lt}
+use Rattle.std.specs.Prelude.{ℕ, Bool, false, cond, ◌||◌, List, [], ◌∷◌, is_ok, Some, None, Ok, Err, fold, Option, Result, nat_lt}
+use Rattle.std.specs.Result.{result_map_both}
 use Rattle.sources.specs.Meaning.{Meaning}
 use Rattle.refusals.specs.declared.Refusal.{Refusal}
 use Rattle.refusals.specs.declared.Refusal.TheVariants.{NeverStarted, NoSuchCarrier, NoSuchJob}
@@ -8,7 +9,7 @@ use Rattle.auction.specs.declared.standing.Counts.{Counts}
 use Rattle.auction.specs.declared.call.Call.{Call}
 use Rattle.auction.specs.declared.call.Call.TheVariants.{Start, Summon, Look, Settle, Run, PriceOf, HolderOf, StandingOf, TotalWorth, AllCounts}
 use Rattle.auction.specs.declared.call.Answer.{Answer}
-use Rattle.auction.specs.declared.call.Answer.TheVariants.{Refused, Accepted, Settled, Ran, Price, Holder, Stands, Worth, Counted}
+use Rattle.auction.specs.declared.call.Answer.TheVariants.{Accepted, Settled, Ran, Price, Holder, Stands, Worth, Counted}
 use Rattle.auction.specs.Tally.{Tally, price_at, holder_at, standing_at, total_worth}
 use Rattle.auction.specs.Rules.{start_answer, start_tally, summon_answer, summon_tally, look_answer, look_tally, settle_answer, settle_tally}
 use Rattle.auction.specs.Runs.{run_answer, run_tally}
@@ -38,25 +39,14 @@ counts_answer m (Some t) = Ok t.counts
 
 -- ---- one call
 
-abbrev pub told : {A : Type 0} → (A → Answer) → Result A Refusal → Answer
-told f (Ok x) = f x
-told f (Err e) = Refused e
-
-abbrev pub is_refused : Answer → Bool
-is_refused (Refused e) = true
-is_refused Accepted = false
-is_refused (Settled v) = false
-is_refused (Ran p) = false
-is_refused (Price n) = false
-is_refused (Holder o) = false
-is_refused (Stands s) = false
-is_refused (Worth n) = false
-is_refused (Counted n) = false
+-- What f makes of the answer, or the refusal.
+abbrev pub told : {A : Type 0} → (A → Answer) → Result A Refusal → Result Answer Refusal
+told f r = result_map_both f (λ e. e) r
 
 abbrev pub accepted : Unit {0} → Answer
 accepted x = Accepted
 
-unfoldable pub answer_to : Meaning → Option Tally → Call → Answer
+unfoldable pub answer_to : Meaning → Option Tally → Call → Result Answer Refusal
 answer_to m o (Start step lanes) = told accepted (start_answer step lanes m)
 answer_to m o (Summon i) = told accepted (summon_answer i m o)
 answer_to m o (Look i) = told accepted (look_answer i m o)
@@ -89,7 +79,7 @@ abbrev pub tally_after : Meaning → List Call → Option Tally
 tally_after m calls = tally_from m None calls
 
 -- Each call's answer, one for one, each after the calls before it.
-abbrev pub answers_from : Meaning → Option Tally → List Call → List Answer
+abbrev pub answers_from : Meaning → Option Tally → List Call → List (Result Answer Refusal)
 answers_from m o [] = []
 answers_from m o (c ∷ calls) = answer_to m o c ∷ answers_from m (tally_by m o c) calls
 

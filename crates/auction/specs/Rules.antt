@@ -2,6 +2,8 @@
 -- Refusals stand in the order in which they are checked, and a refused call leaves the tally as it was.
 use Rattle.std.specs.Prelude.{ℕ, ◌+◌, ◌^◌, Bool, cond, ◌&&◌, List, length, replicate, Some, None, Ok, Err, Option, Result, nat_le, nat_lt, slice_set}
 use Rattle.sources.specs.Meaning.{Meaning, row_of}
+use Rattle.sources.specs.Sheets.{within_limits}
+use Rattle.sources.specs.Tables.{heading_of}
 use Rattle.refusals.specs.declared.Refusal.{Refusal}
 use Rattle.refusals.specs.declared.Refusal.TheVariants.{CountsOutside, NeverStarted, StepOutside, LanesOutside, NoSuchCarrier, NotWaiting, NoOpenBid, RowLookedAt, RowNotLookedAt}
 use Rattle.auction.specs.declared.standing.Bid.{Bid}
@@ -20,9 +22,9 @@ use Rattle.auction.specs.Tally.{Tally, standing_at}
 abbrev pub between : ℕ → ℕ → ℕ → Bool
 between low high n = nat_le low n && nat_le n high
 
--- Carriers are 1 to 128, jobs 1 to 256, and the ceiling is at most 2 ^ 36.
+-- The limits of a sheet: carriers are 1 to 128, jobs 1 to 256, and the ceiling is at most 2 ^ 36.
 abbrev pub in_limits : Meaning → Bool
-in_limits m = between 1 128 m.carriers && (between 1 256 m.jobs && nat_le m.ceiling (2 ^ 36))
+in_limits m = within_limits (heading_of m)
 
 abbrev pub start_answer : ℕ → ℕ → Meaning → Result (Unit {0}) Refusal
 start_answer step lanes m =

@@ -90,16 +90,17 @@ many_steps m depth (suc n) r = many_steps m depth n (one_step m depth r)
 abbrev pub ending_of : Tally → Ending
 ending_of t = cond (count_by is_waiting t.standings + count_by is_bidding t.standings == 0) Done Spent
 
--- What was made between two counts.
-abbrev pub report_of : Counts → Counts → ℕ → Ending → Report
-report_of before after steps ending = record {
-  steps = steps;
+-- What was counted between two counts.
+abbrev pub since : Counts → Counts → Counts
+since before after = record {
   summonses = after.summonses - before.summonses;
   awards = after.awards - before.awards;
   stales = after.stales - before.stales;
   outs = after.outs - before.outs;
-  ending = ending;
 }
+
+abbrev pub report_of : Counts → Counts → ℕ → Ending → Report
+report_of before after steps ending = record { steps = steps; counts = since before after; ending = ending }
 
 abbrev pub run_report : Tally → RunState → Report
 run_report t r = report_of t.counts r.tally.counts r.steps (ending_of r.tally)
@@ -109,11 +110,11 @@ pub record Reports (budget : ℕ) (before after : Tally) (p : Report) : Type 0 w
   pub done : p.ending ≡ ending_of after
   pub spent : p.ending ≡ Spent → p.steps ≡ budget
   pub within : p.steps ≤ budget
-  pub covered : p.summonses + p.awards + p.stales + p.outs ≤ p.steps
-  pub summonses_made : before.counts.summonses + p.summonses ≡ after.counts.summonses
-  pub awards_made : before.counts.awards + p.awards ≡ after.counts.awards
-  pub stales_made : before.counts.stales + p.stales ≡ after.counts.stales
-  pub outs_made : before.counts.outs + p.outs ≡ after.counts.outs
+  pub covered : p.counts.summonses + p.counts.awards + p.counts.stales + p.counts.outs ≤ p.steps
+  pub summonses_made : before.counts.summonses + p.counts.summonses ≡ after.counts.summonses
+  pub awards_made : before.counts.awards + p.counts.awards ≡ after.counts.awards
+  pub stales_made : before.counts.stales + p.counts.stales ≡ after.counts.stales
+  pub outs_made : before.counts.outs + p.counts.outs ≡ after.counts.outs
 
 -- Whether the hall was started is checked first, the depth then: 1 to 128.
 abbrev pub run_answer : ℕ → ℕ → Meaning → Option Tally → Result Report Refusal

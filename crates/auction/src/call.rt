@@ -1,6 +1,5 @@
 // The calls on a hall, questions too, and their answers.
 use crate::standing::{Counts, Report, Standing, Verdict};
-use refusals::Refusal;
 
 #[derive(Clone, Copy, PartialEq, Eq, Debug)]
 pub enum Call {
@@ -16,9 +15,9 @@ pub enum Call {
     AllCounts,
 }
 
+// What an accepted call answers. A call gives `Result<Answer, Refusal>`.
 #[derive(Clone, Copy, PartialEq, Eq, Debug)]
 pub enum Answer {
-    Refused(Refusal),
     // Start, summon and look tell only success.
     Accepted,
     Settled(Verdict),

@@ -54,8 +54,8 @@ pub enum Verdict {
     Awarded(Award),
 }
 
-// How many summonses, awards, stale bids and outs there were since the start.
-#[derive(Clone, Copy, PartialEq, Eq, Debug)]
+// How many summonses, awards, stale bids and outs there were, since the start or in a run.
+#[derive(Clone, Copy, PartialEq, Eq, Debug, Default)]
 pub struct Counts {
     pub summonses: u64,
     pub awards: u64,
@@ -85,14 +85,11 @@ pub enum Ending {
     Spent,
 }
 
-// The steps, summonses, awards, stale bids and outs that a run made, and how it ended.
+// The steps that a run made, what it counted, and how it ended.
 #[derive(Clone, Copy, PartialEq, Eq, Debug)]
 pub struct Report {
     pub steps: u64,
-    pub summonses: u64,
-    pub awards: u64,
-    pub stales: u64,
-    pub outs: u64,
+    pub counts: Counts,
     pub ending: Ending,
 }
 
