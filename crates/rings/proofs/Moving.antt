@@ -1,12 +1,12 @@
 -- One more move of a list: what is held after it, and what came of it.
-use Rattle.std.proofs.Common.{◌≡◌, ℕ, ◌+◌, ◌<◌, ◌≤◌, Bool, true, false, cond, ltb, List, [], ◌∷◌, ◌++◌, length, get_or, take, drop, set, sym, refl, ap, ◌∙◌, append_assoc, arith}
+use Rattle.std.proofs.Common.{◌≡◌, ℕ, ◌+◌, ◌<◌, ◌≤◌, Bool, true, false, cond, ltb, Ok, Err, List, [], ◌∷◌, ◌++◌, length, get_or, take, drop, set, sym, refl, ap, ◌∙◌, append_assoc, arith}
 use Rattle.std.proofs.lemmas.List.{take_more, take_more_set, take_all, drop-set-lt, drop-drop, take-append-drop, append-nil}
 use Rattle.std.proofs.lemmas.List.Sums.{fold_more}
 use Rattle.refusals.specs.declared.Refusal.TheVariants.{TooShort}
 use Rattle.rings.specs.declared.moves.Move.{Move}
 use Rattle.rings.specs.declared.moves.Move.TheVariants.{Push, Pop}
 use Rattle.rings.specs.declared.moves.Outcome.{Outcome}
-use Rattle.rings.specs.declared.moves.Outcome.TheVariants.{Pushed, Refused}
+use Rattle.rings.specs.declared.moves.Outcome.TheVariants.{Pushed}
 use Rattle.rings.specs.Moves.{list_after, outcome_of, list_after_all, outcomes_of, pushed_by, all_pushed, popped_by, all_popped, Performed}
 
 -- One move keeps the order.
@@ -14,7 +14,7 @@ one_in_order : {X : Type 0} (n : ℕ) (xs : List X) (m : Move X) → xs ++ pushe
 one_in_order n xs (Push x) =
     go (ltb (length xs) n)
   where
-    go : (b : Bool) → xs ++ pushed_by (Push x) (cond b Pushed (Refused TooShort)) ≡ popped_by (cond b Pushed (Refused TooShort)) ++ cond b (xs ++ x ∷ []) xs
+    go : (b : Bool) → xs ++ pushed_by (Push x) (Pushed (cond b (Ok tt) (Err TooShort))) ≡ cond b (xs ++ x ∷ []) xs
     go true = refl
     go false = append-nil xs
 one_in_order n [] Pop = refl

@@ -1,11 +1,11 @@
 -- What pushes and pops do to a list that has room for n, and what comes of them.
-use Rattle.std.specs.Prelude.{◌≡◌, ℕ, cond, List, [], ◌∷◌, ◌++◌, length, drop, Some, None, fold, nat_lt}
+use Rattle.std.specs.Prelude.{◌≡◌, ℕ, cond, List, [], ◌∷◌, ◌++◌, length, drop, Some, None, Ok, Err, fold, nat_lt}
 use Rattle.std.specs.Option.{option_to_list}
 use Rattle.refusals.specs.declared.Refusal.TheVariants.{TooShort}
 use Rattle.rings.specs.declared.moves.Move.{Move}
 use Rattle.rings.specs.declared.moves.Move.TheVariants.{Push, Pop}
 use Rattle.rings.specs.declared.moves.Outcome.{Outcome}
-use Rattle.rings.specs.declared.moves.Outcome.TheVariants.{Pushed, Refused, Popped}
+use Rattle.rings.specs.declared.moves.Outcome.TheVariants.{Pushed, Popped}
 
 -- A push goes to the end if there is room, and a pop takes the first.
 abbrev pub list_after : {X : Type 0} → ℕ → List X → Move X → List X
@@ -14,7 +14,7 @@ list_after n [] Pop = []
 list_after n (y ∷ xs) Pop = xs
 
 abbrev pub outcome_of : {X : Type 0} → ℕ → List X → Move X → Outcome X
-outcome_of n xs (Push x) = cond (nat_lt (length xs) n) Pushed (Refused TooShort)
+outcome_of n xs (Push x) = Pushed (cond (nat_lt (length xs) n) (Ok tt) (Err TooShort))
 outcome_of n [] Pop = Popped None
 outcome_of n (y ∷ xs) Pop = Popped (Some y)
 
@@ -28,8 +28,8 @@ outcomes_of n xs (m ∷ ms) = outcome_of n xs m ∷ outcomes_of n (list_after n 
 
 -- What was pushed and not refused, in order.
 abbrev pub pushed_by : {X : Type 0} → Move X → Outcome X → List X
-pushed_by (Push x) Pushed = x ∷ []
-pushed_by (Push x) (Refused e) = []
+pushed_by (Push x) (Pushed (Ok u)) = x ∷ []
+pushed_by (Push x) (Pushed (Err e)) = []
 pushed_by (Push x) (Popped o) = []
 pushed_by Pop o = []
 
@@ -40,8 +40,7 @@ all_pushed (m ∷ ms) (o ∷ os) = pushed_by m o ++ all_pushed ms os
 
 -- What was popped, in order.
 abbrev pub popped_by : {X : Type 0} → Outcome X → List X
-popped_by Pushed = []
-popped_by (Refused e) = []
+popped_by (Pushed r) = []
 popped_by (Popped o) = option_to_list o
 
 abbrev pub all_popped : {X : Type 0} → List (Outcome X) → List X

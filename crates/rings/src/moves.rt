@@ -16,8 +16,7 @@ pub enum Move<T> {
 // What came of it.
 #[derive(Clone, Copy)]
 pub enum Outcome<T> {
-    Pushed,
-    Refused(Refusal),
+    Pushed(Result<(), Refusal>),
     Popped(Option<T>),
 }
 
@@ -29,10 +28,7 @@ impl<'a, T: Copy> Ring<'a, T> {
         ensures size { room self.new ≡ room self.old }
     {
         match step {
-            Move::Push(x) => match self.push(x) {
-                Ok(()) => Outcome::Pushed,
-                Err(refusal) => Outcome::Refused(refusal),
-            },
+            Move::Push(x) => Outcome::Pushed(self.push(x)),
             Move::Pop => Outcome::Popped(self.pop()),
         }
     }
@@ -51,6 +47,7 @@ impl<'a, T: Copy> Ring<'a, T> {
         if moves.len() > outcomes.len() {
             return Err(Refusal::TooShort);
         }
+        // By index: after a zip with `iter_mut` a proof knows how many outcomes there are, and not what was written.
         for (i, step) in moves.iter().enumerate() {
             outcomes[i] = self.perform(*step);
         }
