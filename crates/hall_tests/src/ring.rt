@@ -64,8 +64,7 @@ fn a_ring_without_places_refuses_everything(rt: HostRuntime) {
 fn popped(outcome: Outcome<usize>) -> Option<usize> {
     match outcome {
         Outcome::Popped(found) => found,
-        Outcome::Pushed => None,
-        Outcome::Refused(_) => None,
+        Outcome::Pushed(_) => None,
     }
 }
 
@@ -83,7 +82,7 @@ fn a_list_of_moves(rt: HostRuntime) -> Result<(), Fail> {
         Move::Pop,
         Move::Pop,
     ];
-    let mut outcomes = [Outcome::Pushed; 8];
+    let mut outcomes = [Outcome::Pushed(Ok(())); 8];
     assert_eq!(rt;
         ring.perform_all(&moves, &mut outcomes[0..7]),
         Err(Refusal::TooShort)

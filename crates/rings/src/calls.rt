@@ -8,6 +8,7 @@ use refusals::Refusal;
 
 impl<'a, T: Copy> Ring<'a, T> {
     // An empty ring over the places.
+    #[tactic(auto, unfolding(crate::specs::Held::held, crate::specs::Held::room))]
     pub fn new(places: &'a mut [T]) -> Ring<'a, T>
         ensures holds { held result ≡ [] }
         ensures size { room result ≡ length places.old }
@@ -27,6 +28,7 @@ impl<'a, T: Copy> Ring<'a, T> {
     }
 
     // Adds at the back. A full ring refuses, and is left as it was; a place that a pop has freed is used again.
+    #[tactic(auto, using(crate::proofs::Turns::length_items), unfolding(crate::specs::Held::held, crate::specs::Held::room))]
     pub fn push(&mut self, x: T) -> Result<(), Refusal>
         ensures holds { held self.new ≡ (if is_ok result then held self.old ++ x ∷ [] else held self.old) }
         ensures test { is_ok result ≡ nat_lt (length (held self.old)) (room self.old) }
@@ -50,6 +52,7 @@ impl<'a, T: Copy> Ring<'a, T> {
     }
 
     // Takes the oldest away; nothing from an empty ring.
+    #[tactic(auto, using(crate::proofs::Turns::length_items), unfolding(crate::specs::Held::held, crate::specs::Held::room))]
     pub fn pop(&mut self) -> Option<T>
         ensures holds { held self.old ≡ option_to_list result ++ held self.new }
         ensures test { is_some result ≡ nat_lt 0 (length (held self.old)) }

@@ -1,5 +1,4 @@
-use Rattle.std.proofs.Common.{◌<◌, true, length, sym, refl, ap, ◌∙◌, arith}
-use Rattle.std.proofs.lemmas.Bool.{both_ways, cond-true, le-leb}
+use Rattle.std.proofs.Common.{◌<◌, length, ap, ◌∙◌, arith}
 use Rattle.rings.specs.Held.{held, room}
 use Rattle.rings.specs.Moves.{list_after, outcome_of}
 use Rattle.rings.proofs.Moving.{list_more, outcome_more, behind_more, all_performed}
@@ -21,13 +20,8 @@ loop-i-preserved g c =
       behind_more c.loop-i.outcomes c.args.outcomes.now i c.perform.result l inv.3,
     )
 
-pub returns : goal.returns
-returns g c =
+pub returns-clause-performed : goal.returns-clause-performed
+returns-clause-performed g c =
     let inv = c.loop-i.invariant in
-    record {
-      fits = sym (cond-true _ _ _ (le-leb (length c.args.moves.now) (length c.args.outcomes.now) c.if-moves-outcomes.false));
-      performed = λ _. all_performed (room c.args.self.now) c.args.moves.now (held c.args.self.now) (held c.loop-i.self) c.args.outcomes.now c.loop-i.outcomes c.loop-i.i
-          c.loop-i-test.false c.loop-i.auto.i-end inv.0 inv.2 inv.3;
-      refused = λ h. absurd (both_ways true h refl);
-      size = inv.1;
-    }
+    λ _. all_performed (room c.args.self.now) c.args.moves.now (held c.args.self.now) (held c.loop-i.self) c.args.outcomes.now c.loop-i.outcomes c.loop-i.i
+    c.loop-i-test.false c.loop-i.auto.i-end inv.0 inv.2 inv.3
