@@ -1,5 +1,9 @@
 // The calls on a hall, questions too, and their answers.
+ghost use Rattle.auction.specs.Shown.{answer_text, call_text};
+ghost use Rattle.std.specs.Prelude.{Some};
+
 use crate::standing::{Counts, Report, Standing, Verdict};
+use std::fmt;
 
 #[derive(Clone, Copy, PartialEq, Eq, Debug)]
 pub enum Call {
@@ -27,4 +31,43 @@ pub enum Answer {
     Stands(Standing),
     Worth(u64),
     Counted(Counts),
+}
+
+// A call in its plain form, as a log has it.
+impl fmt::Display for Call {
+    ghost output = { λ x. Some (call_text x) };
+
+    fn fmt<W: fmt::Write>(&self, f: &mut fmt::Formatter<W>) -> fmt::Result {
+        match *self {
+            Call::Start { step, lanes } => write!(f, "start {step} {lanes}"),
+            Call::Summon(carrier) => write!(f, "summon {carrier}"),
+            Call::Look(carrier) => write!(f, "look {carrier}"),
+            Call::Settle(carrier) => write!(f, "settle {carrier}"),
+            Call::Run { depth, budget } => write!(f, "run {depth} {budget}"),
+            Call::PriceOf(job) => write!(f, "price {job}"),
+            Call::HolderOf(job) => write!(f, "holder {job}"),
+            Call::StandingOf(carrier) => write!(f, "standing {carrier}"),
+            Call::TotalWorth => write!(f, "worth"),
+            Call::AllCounts => write!(f, "counts"),
+        }
+    }
+}
+
+// An answer in plain words.
+impl fmt::Display for Answer {
+    ghost output = { λ x. Some (answer_text x) };
+
+    fn fmt<W: fmt::Write>(&self, f: &mut fmt::Formatter<W>) -> fmt::Result {
+        match *self {
+            Answer::Accepted => write!(f, "accepted"),
+            Answer::Settled(verdict) => write!(f, "{verdict}"),
+            Answer::Ran(report) => write!(f, "{report}"),
+            Answer::Price(price) => write!(f, "{price}"),
+            Answer::Holder(Some(carrier)) => write!(f, "carrier {carrier}"),
+            Answer::Holder(None) => write!(f, "nobody"),
+            Answer::Stands(standing) => write!(f, "{standing}"),
+            Answer::Worth(worth) => write!(f, "{worth}"),
+            Answer::Counted(counts) => write!(f, "{counts}"),
+        }
+    }
 }

@@ -1,5 +1,5 @@
 // What a carrier's standing, its bid and the end of a bid are.
-ghost use Rattle.auction.specs.Shown.{award_text, verdict_text};
+ghost use Rattle.auction.specs.Shown.{award_text, best_text, bid_text, counts_text, ending_text, held_text, report_text, standing_text, verdict_text};
 ghost use Rattle.std.specs.Prelude.{Some};
 
 use std::fmt;
@@ -116,6 +116,98 @@ impl fmt::Display for Verdict {
             Verdict::Out => write!(f, "out"),
             Verdict::Stale => write!(f, "stale"),
             Verdict::Awarded(award) => write!(f, "{award}"),
+        }
+    }
+}
+
+// As `5 summonses, 4 awards, 1 stale, 0 out`.
+impl fmt::Display for Counts {
+    ghost output = { λ x. Some (counts_text x) };
+
+    fn fmt<W: fmt::Write>(&self, f: &mut fmt::Formatter<W>) -> fmt::Result {
+        let Counts {
+            summonses,
+            awards,
+            stales,
+            outs,
+        } = *self;
+        write!(
+            f,
+            "{summonses} summonses, {awards} awards, {stales} stale, {outs} out"
+        )
+    }
+}
+
+// `done` or `spent`.
+impl fmt::Display for Ending {
+    ghost output = { λ x. Some (ending_text x) };
+
+    fn fmt<W: fmt::Write>(&self, f: &mut fmt::Formatter<W>) -> fmt::Result {
+        match *self {
+            Ending::Done => write!(f, "done"),
+            Ending::Spent => write!(f, "spent"),
+        }
+    }
+}
+
+// The ending, the steps, and what they came to.
+impl fmt::Display for Report {
+    ghost output = { λ x. Some (report_text x) };
+
+    fn fmt<W: fmt::Write>(&self, f: &mut fmt::Formatter<W>) -> fmt::Result {
+        let Report {
+            steps,
+            counts,
+            ending,
+        } = *self;
+        write!(f, "{ending}, {steps} steps, {counts}")
+    }
+}
+
+// The best net, its job and its worth.
+impl fmt::Display for Best {
+    ghost output = { λ x. Some (best_text x) };
+
+    fn fmt<W: fmt::Write>(&self, f: &mut fmt::Formatter<W>) -> fmt::Result {
+        let Best { net, job, worth } = *self;
+        write!(f, "best net {net} at job {job} of worth {worth}")
+    }
+}
+
+// How far a bid has looked, and what it has found.
+impl fmt::Display for Bid {
+    ghost output = { λ x. Some (bid_text x) };
+
+    fn fmt<W: fmt::Write>(&self, f: &mut fmt::Formatter<W>) -> fmt::Result {
+        let looked = self.looked;
+        let runner_up = self.runner_up;
+        match self.best {
+            None => write!(f, "{looked} looked at, nothing found"),
+            Some(best) => write!(f, "{looked} looked at, {best}, runner-up {runner_up}"),
+        }
+    }
+}
+
+// As `job 1 of worth 10`.
+impl fmt::Display for Held {
+    ghost output = { λ x. Some (held_text x) };
+
+    fn fmt<W: fmt::Write>(&self, f: &mut fmt::Formatter<W>) -> fmt::Result {
+        let Held { job, worth } = *self;
+        write!(f, "job {job} of worth {worth}")
+    }
+}
+
+// Where a carrier stands, with its unfinished bid.
+impl fmt::Display for Standing {
+    ghost output = { λ x. Some (standing_text x) };
+
+    fn fmt<W: fmt::Write>(&self, f: &mut fmt::Formatter<W>) -> fmt::Result {
+        match *self {
+            Standing::Waiting => write!(f, "waiting"),
+            Standing::Bidding(bid) => write!(f, "bidding, {bid}"),
+            Standing::Served(held) => write!(f, "served with {held}"),
+            Standing::Out => write!(f, "out"),
         }
     }
 }
