@@ -1,6 +1,6 @@
 -- What a reader of any source may rely on: its rows, entry by entry.
-use Rattle.std.proofs.Common.{◌≡◌, ℕ, zero, suc, ◌+◌, ◌<◌, ◌≤◌, List, [], ◌∷◌, length, get_or, Some, None, sym, refl, ◌∙◌, subst, arith}
-use Rattle.std.specs.Option.{option_map}
+use Rattle.std.proofs.Common.{◌≡◌, ℕ, zero, suc, ◌+◌, ◌<◌, ◌≤◌, List, [], ◌∷◌, length, get_or, drop, Some, None, Option, sym, refl, ◌∙◌, subst, add-one, drop-cons, arith}
+use Rattle.std.specs.Option.{MatchOption, option_map, unwrap_or}
 use Rattle.std.specs.List.{slice_get, AllByRecursion}
 use Rattle.sources.specs.Meaning.{Meaning, Sound, Rising, chosen, row_len, entry_at, row_of}
 
@@ -15,6 +15,15 @@ len_none : (rows : List (List (ℕ × ℕ))) (i : ℕ) → option_map length (sl
 len_none [] i e = refl
 len_none (row ∷ rows) zero e = let z : ◌≡◌ {A = ℕ} 0 1 = cc in absurd (omega arith)
 len_none (row ∷ rows) (suc i) e = len_none rows i e
+
+length_read : (rows : List (List (ℕ × ℕ))) (i : ℕ) → unwrap_or (option_map length (slice_get rows i)) 0 ≡ length (get_or rows i [])
+length_read [] i = refl
+length_read (row ∷ rows) zero = refl
+length_read (row ∷ rows) (suc i) = length_read rows i
+
+-- the length that was read, or 0 where no row is, is that of the row
+pub row_len_or_zero : (m : Meaning) (i : ℕ) → unwrap_or (row_len m i) 0 ≡ length (row_of m i)
+row_len_or_zero m i = length_read m.rows i
 
 pub row_len_some : (m : Meaning) (i n : ℕ) → Some n ≡ row_len m i → n ≡ length (row_of m i)
 row_len_some m i n e = len_some m.rows i n (sym e)
@@ -62,6 +71,14 @@ entry_read m i k e h = nth_some (row_of m i) k e (0, 0) (entry_some m i k e h)
 -- where none was read, the row ends
 pub entry_past : (m : Meaning) (i k : ℕ) → None ≡ entry_at m i k → length (row_of m i) ≤ k
 entry_past m i k h = nth_none (row_of m i) k (entry_none m i k h)
+
+-- what is left of a row before and after its entry at k was asked for
+pub entry_step : (m : Meaning) (i k l : ℕ) (r : Option (ℕ × ℕ)) → r ≡ entry_at m i k → k < length (row_of m i) → l ≡ k + 1 → MatchOption r ((drop k (row_of m i) ≡ []) × (drop l (row_of m i) ≡ [])) (λ x. drop k (row_of m i) ≡ x ∷ drop l (row_of m i))
+entry_step m i k l None e inside next = absurd (omega (arith, entry_past m i k e))
+entry_step m i k l (Some x) e inside next =
+    let d = drop-cons (row_of m i) k (0, 0) inside in
+    let at = entry_read m i k x e in
+    simp (next, d, at, add-one)
 
 -- ---- what soundness says of a row
 

@@ -1,10 +1,12 @@
 // What follows from the answers of any source.
-ghost use Rattle.std.specs.Prelude.{◌≡◌, length};
+ghost use Rattle.std.specs.Prelude.{◌≡◌, length, drop};
+ghost use Rattle.std.specs.Iterator.{YieldsFirst, item_count};
 ghost use Rattle.sources.specs.Meaning.{row_of};
 ghost use Rattle.sources.specs.Tables.{heading_of};
 
 use crate::form::Heading;
 use crate::source::Source;
+use std::ops::Range;
 
 // The three numbers of a source.
 pub fn heading_of<S: Source>(source: &S) -> Heading
@@ -21,8 +23,46 @@ pub fn heading_of<S: Source>(source: &S) -> Heading
 pub fn row_length<S: Source>(source: &S, carrier: usize) -> usize
     ensures { result ≡ length (row_of (S.Source.meaning source.now) carrier) }
 {
-    match source.row_len(carrier) {
-        Some(len) => len,
-        None => 0,
+    source.row_len(carrier).unwrap_or(0)
+}
+
+// The entries of a carrier's row from a place on, in their order.
+#[derive(Drop)]
+pub struct RowEntries<'a, S: Source> {
+    source: &'a S,
+    carrier: usize,
+    places: Range<usize>,
+    ghost whole: { places.end ≡ length (row_of (S.Source.meaning source.now) carrier) },
+}
+
+// The entries of a carrier's row; none past the last carrier.
+pub fn entries<S: Source>(source: &S, carrier: usize) -> RowEntries<'_, S>
+    ensures { drop result.places.start (row_of (S.Source.meaning result.source.now) result.carrier) ≡ row_of (S.Source.meaning source.now) carrier }
+{
+    entries_from(source, carrier, 0)
+}
+
+// The same from a place on.
+pub fn entries_from<S: Source>(source: &S, carrier: usize, place: usize) -> RowEntries<'_, S>
+    ensures { drop result.places.start (row_of (S.Source.meaning result.source.now) result.carrier) ≡ drop place (row_of (S.Source.meaning source.now) carrier) }
+{
+    let places = place..row_length(source, carrier);
+    RowEntries {
+        source,
+        carrier,
+        places,
+    }
+}
+
+impl<S: Source> Iterator for RowEntries<'_, S> {
+    type Item = (usize, u64);
+
+    ghost next_gives = { YieldsFirst (λ s. drop s.places.start (row_of (S.Source.meaning s.source.now) s.carrier)) };
+
+    ghost remaining = { item_count (λ s. drop s.places.start (row_of (S.Source.meaning s.source.now) s.carrier)) };
+
+    fn next(&mut self) -> Option<(usize, u64)> {
+        let place = self.places.next()?;
+        self.source.entry(self.carrier, place)
     }
 }

@@ -5,20 +5,21 @@ ghost use Rattle.sources.specs.Sheets.{within_limits, starts_good, in_order, ent
 use crate::form::{Entry, Heading};
 use refusals::Refusal;
 
-const MOST_CARRIERS: usize = 128;
+// The most carriers that a sheet may have.
+pub const MOST_CARRIERS: usize = 128;
 
-const MOST_JOBS: usize = 256;
+// The most jobs that a sheet may have.
+pub const MOST_JOBS: usize = 256;
 
-const HIGHEST_CEILING: u64 = 1 << 36;
+// The highest ceiling that a sheet may have.
+pub const HIGHEST_CEILING: u64 = 1 << 36;
 
 // Whether carriers are 1 to 128, jobs 1 to 256, and the ceiling is at most 2^36.
 pub fn within_limits(heading: Heading) -> bool
     ensures { result ≡ within_limits heading }
 {
-    heading.carriers >= 1
-        && heading.carriers <= MOST_CARRIERS
-        && heading.jobs >= 1
-        && heading.jobs <= MOST_JOBS
+    (1..=MOST_CARRIERS).contains(&heading.carriers)
+        && (1..=MOST_JOBS).contains(&heading.jobs)
         && heading.ceiling <= HIGHEST_CEILING
 }
 

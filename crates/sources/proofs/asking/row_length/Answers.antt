@@ -1,9 +1,7 @@
-use Rattle.std.proofs.Common.{length, sym, ap}
-use Rattle.sources.proofs.Reading.{row_len_some, row_len_none}
+use Rattle.std.proofs.Common.{ap, ◌∙◌}
+use Rattle.std.specs.Option.{unwrap_or}
+use Rattle.sources.proofs.Reading.{row_len_or_zero}
 use Rattle.sources.proofs.asking.row_length.Goals as goal
 
-pub returns-in-Some : goal.returns-in-Some
-returns-in-Some g c = row_len_some (g.S.Source.meaning c.args.source.now) c.args.carrier c.in-Some.len c.in-Some.ensures
-
-pub returns-in-None : goal.returns-in-None
-returns-in-None g c = sym (ap length (row_len_none (g.S.Source.meaning c.args.source.now) c.args.carrier c.in-None.ensures))
+pub returns : goal.returns
+returns g c = c.unwrap_or.ensures ∙ ap (λ o. unwrap_or o 0) c.row_len.ensures ∙ row_len_or_zero (g.S.Source.meaning c.args.source.now) c.args.carrier
