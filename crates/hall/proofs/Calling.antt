@@ -10,43 +10,56 @@ use Rattle.auction.specs.declared.standing.Counts.{Counts}
 use Rattle.auction.specs.declared.standing.Act.{Act}
 use Rattle.auction.specs.declared.standing.Standing.{Standing}
 use Rattle.auction.specs.declared.standing.Standing.TheVariants.{Waiting, Bidding}
-use Rattle.auction.specs.Tally.{Tally}
+use Rattle.auction.specs.Tally.{Tally, standing_at}
 use Rattle.auction.specs.Rules.{bid_after, bid_at, bid_by, once, taken, stands, bids, called}
 use Rattle.auction.proofs.Keeping.{call_consistent}
 use Rattle.hall.specs.declared.books.Books.{Books}
 use Rattle.hall.specs.Kept.{Kept, tally_held}
 use Rattle.hall.specs.InBooks.{is_open, tally_in, tally_of}
-use Rattle.hall.specs.Steps.{admitted, standing_after, counts_after}
+use Rattle.hall.specs.Steps.{admitted_below, admitted, standing_after, counts_after}
 use Rattle.hall.proofs.Keeps.{kept_out, kept_by}
 use Rattle.hall.proofs.Tables.{same_tally, stands_in, open_tally, shut_tally, open_parts, renumbered, consistent_in, standing_in}
 
-both_tests : (o l : Bool) → ◌≡◌ {A = Result (Unit {0}) Refusal} (Ok tt) (cond o (cond l (Ok tt) (Err NoSuchCarrier)) (Err NeverStarted)) → (o ≡ true) × (l ≡ true)
-both_tests true true e = (refl, refl)
-both_tests true false e = let z : ◌≡◌ {A = ℕ} 0 1 = cc in absurd (omega arith)
-both_tests false l e = let z : ◌≡◌ {A = ℕ} 0 1 = cc in absurd (omega arith)
+both_tests : (r : Refusal) (o l : Bool) → ◌≡◌ {A = Result (Unit {0}) Refusal} (Ok tt) (cond o (cond l (Ok tt) (Err r)) (Err NeverStarted)) → (o ≡ true) × (l ≡ true)
+both_tests r true true e = (refl, refl)
+both_tests r true false e = let z : ◌≡◌ {A = ℕ} 0 1 = cc in absurd (omega arith)
+both_tests r false l e = let z : ◌≡◌ {A = ℕ} 0 1 = cc in absurd (omega arith)
+
+pub below_parts : (n : ℕ) (r : Refusal) (m : Meaning) (i : ℕ) (b : Books) → Ok tt ≡ admitted_below n r m i b → (is_open m b ≡ true) × (i < n)
+below_parts n r m i b e =
+    let p = both_tests r (is_open m b) (ltb i n) e in
+    (p.0, ltb-true i n p.1)
 
 pub admitted_parts : (m : Meaning) (i : ℕ) (b : Books) → Ok tt ≡ admitted m i b → (is_open m b ≡ true) × (i < b.carriers)
-admitted_parts m i b e =
-    let p = both_tests (is_open m b) (ltb i b.carriers) e in
-    (p.0, ltb-true i b.carriers p.1)
+admitted_parts m i b e = below_parts b.carriers NoSuchCarrier m i b e
 
-refused_there : (x : Result Bid Refusal) (l : Bool) (e : Refusal) → ◌≡◌ {A = Result (Unit {0}) Refusal} (Err e) (cond l (Ok tt) (Err NoSuchCarrier)) →
-    Err e ≡ cond l x (Err NoSuchCarrier)
-refused_there x true e h = let z : ◌≡◌ {A = ℕ} 0 1 = cc in absurd (omega arith)
-refused_there x false e h = cc
+refused_there : {A : Type 0} (r : Refusal) (x : Result A Refusal) (l : Bool) (e : Refusal) → ◌≡◌ {A = Result (Unit {0}) Refusal} (Err e) (cond l (Ok tt) (Err r)) →
+    Err e ≡ cond l x (Err r)
+refused_there r x true e h = let z : ◌≡◌ {A = ℕ} 0 1 = cc in absurd (omega arith)
+refused_there r x false e h = cc
 
--- A call that is not admitted is refused by the rule too.
+-- A rule that refuses a hall that was never started, and then a number that is not below n. What is not admitted is refused by it too.
+module _ {A : Type 0} (rule : Option Tally → Result A Refusal) (found : Tally → Result A Refusal) (n : ℕ) (r : Refusal) (m : Meaning) (i : ℕ) (b : Books)
+    (never : rule None ≡ Err NeverStarted) (there : (t : Tally) → rule (Some t) ≡ cond (ltb i n) (found t) (Err r)) where
+  pub refused_by : (k : ℕ) → (is_open m b ≡ true → k ≡ n) → (e : Refusal) → Err e ≡ admitted_below k r m i b → Err e ≡ rule (tally_of m b)
+  refused_by k same e h = ⊎_elim
+      (λ o. refused_there r _ (ltb i n) e (h ∙ cond-true (is_open m b) _ _ o ∙ ap (λ z. cond (ltb i z) (Ok tt) (Err r)) (same o))
+      ∙ sym (ap rule (open_tally m b o) ∙ there (tally_in b)))
+      (λ o.
+      let q : ◌≡◌ {A = Result (Unit {0}) Refusal} (Err e) (Err NeverStarted) = h ∙ cond-false (is_open m b) _ _ o in
+      let z : e ≡ NeverStarted = cc in
+      ap Err z ∙ sym (ap rule (shut_tally m b o) ∙ never))
+      (cases_Bool (is_open m b))
+
+  pub found_by : (k : ℕ) → (is_open m b ≡ true → k ≡ n) → Ok tt ≡ admitted_below k r m i b → rule (tally_of m b) ≡ found (tally_in b)
+  found_by k same h =
+      let p = below_parts k r m i b h in
+      ap rule (open_tally m b p.0) ∙ there (tally_in b) ∙ cond-true (ltb i n) _ _ (lt-ltb i n (omega (arith, p.1, same p.0)))
+
 pub refused_bid : (m : Meaning) (i : ℕ) (act : Act) (b : Books) (e : Refusal) → Err e ≡ admitted m i b → Err e ≡ bid_by m i act (tally_of m b)
 unfolding bid_at
-refused_bid m i act b e h = ⊎_elim
-    (λ o. refused_there _ (ltb i m.carriers) e
-    (h ∙ cond-true (is_open m b) _ _ o ∙ ap (λ n. cond (ltb i n) (Ok tt) (Err NoSuchCarrier)) (open_parts m b o).1)
-    ∙ sym (ap (bid_by m i act) (open_tally m b o)))
-    (λ o.
-    let q : ◌≡◌ {A = Result (Unit {0}) Refusal} (Err e) (Err NeverStarted) = h ∙ cond-false (is_open m b) _ _ o in
-    let n : e ≡ NeverStarted = cc in
-    ap Err n ∙ sym (ap (bid_by m i act) (shut_tally m b o)))
-    (cases_Bool (is_open m b))
+refused_bid m i act b e h =
+    refused_by (bid_by m i act) (λ t. bid_after t.lanes t.prices (row_of m i) (standing_at t i) act) m.carriers NoSuchCarrier m i b refl (λ t. refl) b.carriers (λ o. (open_parts m b o).1) e h
 
 -- A refused call leaves the tally as it is.
 pub refused_tally : (m : Meaning) (i : ℕ) (act : Act) (f : Bid → Tally → Tally) (e : Refusal) (o : Option Tally) → Err e ≡ bid_by m i act o → o ≡ once (λ t. taken (bid_at m i act t) f t) o

@@ -1,53 +1,57 @@
 -- What the questions tell: the tables hold what the tally's lists hold.
-use Rattle.std.proofs.Common.{◌≡◌, ℕ, ◌+◌, ◌^◌, ◌<◌, ◌≤◌, true, cond, ltb, [], ◌∷◌, length, get_or, take, None, Ok, Err, sum_by, Result, sym, ap, ◌∙◌, subst, arith}
-use Rattle.std.proofs.lemmas.List.{get_or-take, take_more, length-take-le}
+use Rattle.std.proofs.Common.{◌≡◌, ℕ, ◌^◌, ◌<◌, ◌≤◌, true, length, get_or, take, None, Ok, Err, sum_by, sym, refl, ap, ◌∙◌, subst, arith}
+use Rattle.std.proofs.lemmas.List.{get_or-take, length-take-le}
 use Rattle.std.proofs.ByRecursion.{All-from_get_or, sum_by_le}
-use Rattle.std.proofs.lemmas.List.Sums.{sum_by-append, sum_by-cons}
-use Rattle.std.proofs.lemmas.Bool.{cond-true, cond-false, lt-ltb, le-ltb}
 use Rattle.sources.specs.Meaning.{Meaning}
 use Rattle.refusals.specs.declared.Refusal.{Refusal}
 use Rattle.refusals.specs.declared.Refusal.TheVariants.{NoSuchJob, NoSuchCarrier}
 use Rattle.auction.specs.declared.standing.Standing.{Standing}
 use Rattle.auction.specs.declared.standing.Standing.TheVariants.{Waiting, Bidding, Served, Out}
-use Rattle.auction.specs.Tally.{standing_at, worth_served}
+use Rattle.auction.specs.Tally.{price_at, holder_at, standing_at, worth_served}
 use Rattle.auction.specs.Consistent.{StandingSound}
 use Rattle.auction.specs.Calls.{price_answer, holder_answer, standing_answer}
 use Rattle.hall.specs.declared.books.Books.{Books}
 use Rattle.hall.specs.InBooks.{is_open, tally_in, tally_of}
 use Rattle.hall.proofs.Keeps.{kept_out}
-use Rattle.hall.proofs.Tables.{open_tally, open_parts, consistent_in, standing_in}
+use Rattle.hall.proofs.Tables.{open_parts, consistent_in, few_places, standing_in}
+use Rattle.hall.proofs.Calling.{below_parts, admitted_parts, refused_by, found_by}
+use Rattle.hall.specs.Steps.{admitted_job, admitted}
 
-module _ (m : Meaning) (b : Books) (o : is_open m b ≡ true) (j : ℕ) where
-  job_past : {A : Type 0} (x : Result A Refusal) → b.jobs ≤ j → cond (ltb j m.jobs) x (Err NoSuchJob) ≡ Err NoSuchJob
-  job_past x l = cond-false (ltb j m.jobs) x (Err NoSuchJob) (le-ltb j m.jobs (omega (arith, (open_parts m b o).2)))
+module _ (m : Meaning) (b : Books) (j : ℕ) where
+  job_below : is_open m b ≡ true → b.jobs ≡ m.jobs
+  job_below o = (open_parts m b o).2
 
-  job_known : {A : Type 0} (x : Result A Refusal) → j < b.jobs → cond (ltb j m.jobs) x (Err NoSuchJob) ≡ x
-  job_known x l = cond-true (ltb j m.jobs) x (Err NoSuchJob) (lt-ltb j m.jobs (omega (arith, (open_parts m b o).2)))
+  carrier_below : is_open m b ≡ true → b.carriers ≡ m.carriers
+  carrier_below o = (open_parts m b o).1
 
-  pub price_past : b.jobs ≤ j → Err NoSuchJob ≡ price_answer j m (tally_of m b)
-  price_past l = sym (ap (price_answer j m) (open_tally m b o) ∙ job_past (Ok _) l)
+  pub price_refused : (e : Refusal) → Err e ≡ admitted_job m j b → Err e ≡ price_answer j m (tally_of m b)
+  price_refused e h = refused_by (price_answer j m) (λ t. Ok (price_at t j)) m.jobs NoSuchJob m j b refl (λ t. refl) b.jobs job_below e h
 
-  pub price_told : j < b.jobs → Ok (get_or b.prices j 0) ≡ price_answer j m (tally_of m b)
-  price_told l = sym (ap (price_answer j m) (open_tally m b o) ∙ job_known (Ok _) l ∙ ap Ok (get_or-take b.jobs b.prices j 0 l))
+  pub price_told : Ok tt ≡ admitted_job m j b → Ok (get_or b.prices j 0) ≡ price_answer j m (tally_of m b)
+  price_told h =
+      sym (found_by (price_answer j m) (λ t. Ok (price_at t j)) m.jobs NoSuchJob m j b refl (λ t. refl) b.jobs job_below h ∙ ap Ok (get_or-take b.jobs b.prices j 0 (below_parts b.jobs NoSuchJob m j b h).1))
 
-  pub holder_past : b.jobs ≤ j → Err NoSuchJob ≡ holder_answer j m (tally_of m b)
-  holder_past l = sym (ap (holder_answer j m) (open_tally m b o) ∙ job_past (Ok _) l)
+  pub holder_refused : (e : Refusal) → Err e ≡ admitted_job m j b → Err e ≡ holder_answer j m (tally_of m b)
+  holder_refused e h = refused_by (holder_answer j m) (λ t. Ok (holder_at t j)) m.jobs NoSuchJob m j b refl (λ t. refl) b.jobs job_below e h
 
-  pub holder_told : j < b.jobs → Ok (get_or b.holders j None) ≡ holder_answer j m (tally_of m b)
-  holder_told l = sym (ap (holder_answer j m) (open_tally m b o) ∙ job_known (Ok _) l ∙ ap Ok (get_or-take b.jobs b.holders j None l))
+  pub holder_told : Ok tt ≡ admitted_job m j b → Ok (get_or b.holders j None) ≡ holder_answer j m (tally_of m b)
+  holder_told h =
+      sym (found_by (holder_answer j m) (λ t. Ok (holder_at t j)) m.jobs NoSuchJob m j b refl (λ t. refl) b.jobs job_below h
+      ∙ ap Ok (get_or-take b.jobs b.holders j None (below_parts b.jobs NoSuchJob m j b h).1))
 
-  pub standing_past : b.carriers ≤ j → Err NoSuchCarrier ≡ standing_answer j m (tally_of m b)
-  standing_past l =
-      sym (ap (standing_answer j m) (open_tally m b o) ∙ cond-false (ltb j m.carriers) (Ok _) (Err NoSuchCarrier) (le-ltb j m.carriers (omega (arith, (open_parts m b o).1))))
+  pub standing_refused : (e : Refusal) → Err e ≡ admitted m j b → Err e ≡ standing_answer j m (tally_of m b)
+  standing_refused e h = refused_by (standing_answer j m) (λ t. Ok (standing_at t j)) m.carriers NoSuchCarrier m j b refl (λ t. refl) b.carriers carrier_below e h
 
-  pub standing_told : j < b.carriers → Ok (get_or b.standings j Waiting) ≡ standing_answer j m (tally_of m b)
-  standing_told l =
-      sym (ap (standing_answer j m) (open_tally m b o)
-      ∙ cond-true (ltb j m.carriers) (Ok _) (Err NoSuchCarrier) (lt-ltb j m.carriers (omega (arith, (open_parts m b o).1)))
-      ∙ ap Ok (standing_in b j l))
+  pub standing_told : Ok tt ≡ admitted m j b → Ok (get_or b.standings j Waiting) ≡ standing_answer j m (tally_of m b)
+  standing_told h =
+      sym (found_by (standing_answer j m) (λ t. Ok (standing_at t j)) m.carriers NoSuchCarrier m j b refl (λ t. refl) b.carriers carrier_below h
+      ∙ ap Ok (standing_in b j (admitted_parts m j b h).1))
 
-pub known_job : (b : Books) (j : ℕ) → j < b.jobs → j < 256
-known_job b j l = omega (arith, l, (consistent_in b).limits.few_jobs)
+pub known_job : (m : Meaning) (b : Books) (j : ℕ) → Ok tt ≡ admitted_job m j b → j < 256
+known_job m b j h = omega (arith, (below_parts b.jobs NoSuchJob m j b h).1, (consistent_in b).limits.few_jobs)
+
+pub known_carrier : (m : Meaning) (b : Books) (i : ℕ) → Ok tt ≡ admitted m i b → i < 128
+known_carrier m b i h = few_places b i (admitted_parts m i b h).1
 
 -- ---- the total worth
 
@@ -71,8 +75,3 @@ module _ (b : Books) where
       each n k q =
           subst (λ s. worth_served s ≤ 2 ^ 36) (get_or-take b.carriers b.standings k Out (omega (arith, n, q, l)) ∙ sym (get_or-take i b.standings k Out (omega (arith, n, q))))
           (worth_low b.jobs b.ceiling (standing_at (tally_in b) k) (consistent_in b).limits.low_ceiling ((consistent_in b).sound k))
-
-  pub worth_more : (i : ℕ) → i < b.carriers → sum_by worth_served (take (i + 1) b.standings) ≡ sum_by worth_served (take i b.standings) + worth_served (get_or b.standings i Waiting)
-  worth_more i l =
-      ap (sum_by worth_served) (take_more b.standings i Waiting (omega (arith, l, long_enough))) ∙ sum_by-append worth_served (take i b.standings) (get_or b.standings i Waiting ∷ [])
-      ∙ omega (arith, sum_by-cons worth_served (get_or b.standings i Waiting) [])

@@ -1,25 +1,19 @@
 -- A call's answer, and one more call of a list: its tally and its answer.
-use Rattle.std.proofs.Common.{◌≡◌, ℕ, ◌+◌, ◌<◌, ◌≤◌, true, false, List, [], ◌∷◌, ◌++◌, length, get_or, take, drop, set, is_some, is_ok, None, Ok, Err, Option, Result, sym, refl, ap, ◌∙◌, subst, arith}
+use Rattle.std.proofs.Common.{◌≡◌, ℕ, ◌+◌, ◌<◌, ◌≤◌, List, [], ◌∷◌, ◌++◌, length, get_or, take, drop, set, is_some, None, Option, Result, sym, refl, ap, ◌∙◌, subst, arith}
 use Rattle.std.proofs.lemmas.List.{take_more, take_more_set, take_all, drop-set-lt, drop-drop, take-append-drop}
 use Rattle.std.proofs.lemmas.List.Sums.{fold_more}
-use Rattle.std.proofs.lemmas.Bool.{both_ways}
 use Rattle.refusals.specs.declared.Refusal.{Refusal}
 use Rattle.sources.specs.Meaning.{Meaning, Sound}
 use Rattle.auction.specs.declared.call.Call.{Call}
 use Rattle.auction.specs.declared.call.Answer.{Answer}
 use Rattle.auction.specs.Tally.{Tally}
-use Rattle.auction.specs.Calls.{told, is_refused, answer_to, tally_by, tally_from, tally_after, answers_from}
+use Rattle.auction.specs.Calls.{answer_to, tally_by, tally_from, tally_after, answers_from}
 use Rattle.auction.proofs.CallsKeep.{laws_hold}
 use Rattle.auction.proofs.Undisturbed.{never_stale}
 use Rattle.auction.proofs.Started.{started_exactly}
 use Rattle.hall.specs.declared.books.Books.{Books}
 use Rattle.hall.specs.InBooks.{tally_of}
 use Rattle.hall.specs.Replayed.{Replayed}
-
--- An answer that is a refusal tells a refused result.
-pub told_refused : {A : Type 0} (f : A → Answer) → ((x : A) → is_refused (f x) ≡ false) → (r : Result A Refusal) → is_refused (told f r) ≡ true → is_ok r ≡ false
-told_refused f n (Ok x) e = absurd (both_ways (is_refused (f x)) (n x) e)
-told_refused f n (Err x) e = refl
 
 answers_app : (m : Meaning) (o : Option Tally) (xs : List Call) (c : Call) → answers_from m o (xs ++ c ∷ []) ≡ answers_from m o xs ++ answer_to m (tally_from m o xs) c ∷ []
 unfolding tally_from
@@ -31,18 +25,18 @@ module _ (m : Meaning) (calls : List Call) (i : ℕ) (c : Call) (l : i < length 
   unfolding tally_from
   tally_more o p before now = now ∙ ap (λ z. tally_by m z (get_or calls i c)) before ∙ sym (fold_more (tally_by m) None calls i c l)
 
-  pub answer_more : (o : Option Tally) (a : Answer) (xs ys : List Answer) → o ≡ tally_after m (take i calls) → a ≡ answer_to m o (get_or calls i c) → i < length xs →
+  pub answer_more : (o : Option Tally) (a : Result Answer Refusal) (xs ys : List (Result Answer Refusal)) → o ≡ tally_after m (take i calls) → a ≡ answer_to m o (get_or calls i c) → i < length xs →
       take i xs ≡ answers_from m None (take i calls) → ys ≡ set xs i a → take (i + 1) ys ≡ answers_from m None (take (i + 1) calls)
   answer_more o a xs ys before now l' h e =
       ap (take (i + 1)) e ∙ take_more_set xs i a l' ∙ ap (λ z. z ++ a ∷ []) h
       ∙ ap (λ z. answers_from m None (take i calls) ++ z ∷ []) (now ∙ ap (λ z. answer_to m z (get_or calls i c)) before)
       ∙ sym (ap (answers_from m None) (take_more calls i c l) ∙ answers_app m None (take i calls) (get_or calls i c))
 
-pub beyond_more : (xs ys zs : List Answer) (i : ℕ) (a : Answer) → i < length xs → drop i xs ≡ drop i zs → ys ≡ set xs i a → drop (i + 1) ys ≡ drop (i + 1) zs
+pub beyond_more : (xs ys zs : List (Result Answer Refusal)) (i : ℕ) (a : Result Answer Refusal) → i < length xs → drop i xs ≡ drop i zs → ys ≡ set xs i a → drop (i + 1) ys ≡ drop (i + 1) zs
 beyond_more xs ys zs i a l h e =
     ap (drop (i + 1)) e ∙ drop-set-lt (i + 1) xs i a (omega arith) ∙ sym (drop-drop 1 i xs) ∙ ap (drop 1) h ∙ drop-drop 1 i zs
 
-pub replay_done : (m : Meaning) → Sound m → (calls : List Call) (i : ℕ) (before after : List Answer) (b : Books) → length calls ≤ i → i ≤ length calls →
+pub replay_done : (m : Meaning) → Sound m → (calls : List Call) (i : ℕ) (before after : List (Result Answer Refusal)) (b : Books) → length calls ≤ i → i ≤ length calls →
     tally_of m b ≡ tally_after m (take i calls) → take i after ≡ answers_from m None (take i calls) → drop i after ≡ drop i before → Replayed m calls before after b
 replay_done m s calls i before after b l l' t a d =
     let e : i ≡ length calls = omega arith in
@@ -65,7 +59,7 @@ module _ {S : Type 0} (mean : S → Meaning) (s s' : S) (same : s' ≡ s) (b : B
       tally_more (mean s) calls i c l (tally_of (mean s) b) (tally_of (mean s) b') before
       (subst (λ z. tally_of (mean z) b' ≡ tally_by (mean z) (tally_of (mean z) b) (get_or calls i c)) same now)
 
-  pub answer_performed : (a : Answer) (xs : List Answer) → a ≡ answer_to (mean s') (tally_of (mean s') b) (get_or calls i c) → i < length xs →
+  pub answer_performed : (a : Result Answer Refusal) (xs : List (Result Answer Refusal)) → a ≡ answer_to (mean s') (tally_of (mean s') b) (get_or calls i c) → i < length xs →
       take i xs ≡ answers_from (mean s) None (take i calls) → take (i + 1) (set xs i a) ≡ answers_from (mean s) None (take (i + 1) calls)
   answer_performed a xs now l' h =
       answer_more (mean s) calls i c l (tally_of (mean s) b) a xs (set xs i a) before (subst (λ z. a ≡ answer_to (mean z) (tally_of (mean z) b) (get_or calls i c)) same now) l' h refl

@@ -8,6 +8,7 @@ use Rattle.sources.specs.Meaning.{Meaning, Sound, Rising, row_of}
 use Rattle.refusals.specs.declared.Refusal.{Refusal}
 use Rattle.refusals.specs.declared.Refusal.TheVariants.{NeverStarted, DepthOutside}
 use Rattle.auction.specs.declared.standing.Act.TheVariants.{Summon, Look}
+use Rattle.auction.specs.declared.standing.Counts.{Counts}
 use Rattle.auction.specs.declared.standing.Ending.{Ending}
 use Rattle.auction.specs.declared.standing.Ending.TheVariants.{Done, Spent}
 use Rattle.auction.specs.declared.standing.InFlight.{InFlight}
@@ -18,7 +19,7 @@ use Rattle.auction.specs.declared.standing.Standing.TheVariants.{Waiting, Biddin
 use Rattle.auction.specs.Tally.{Tally}
 use Rattle.auction.specs.Consistent.{Consistent}
 use Rattle.auction.specs.Rules.{between, once, called, settled, settle_answer}
-use Rattle.auction.specs.Runs.{RunState, in_flight, looks_for, gathered, if_waiting, if_bidding, beginning, waits_after, joins_line, first_acts, step_by, one_step, many_steps, ending_of, report_of, run_report, Reports, run_answer, ran, run_tally}
+use Rattle.auction.specs.Runs.{RunState, in_flight, looks_for, gathered, if_waiting, if_bidding, beginning, waits_after, joins_line, first_acts, step_by, one_step, many_steps, ending_of, since, report_of, run_report, Reports, run_answer, ran, run_tally}
 use Rattle.auction.specs.InOrder.{Ordered, Grown}
 use Rattle.sources.proofs.Reading.{row_known, row_rising}
 use Rattle.auction.proofs.Queues.{gathered_more, gathered_short}
@@ -189,11 +190,14 @@ ending_told m b line fs r e is-end = is-end ∙ ap (λ z. cond z Done Spent) (bo
 
 module _ (m : Meaning) (sound : Sound m) (depth budget : ℕ) (old new : Books) (line : List ℕ) (fs : List InFlight) (steps : ℕ) (in' : between 1 128 depth ≡ true) (was : is_open m old ≡ true) (is : is_open m new ≡ true)
     (made : state_in new line fs steps ≡ many_steps m depth budget (beginning m (tally_in old))) (order : Ordered m (state_in new line fs 0))
-    (e : Ending) (is-end : e ≡ cond (eqb (length line) 0 && eqb (length fs) 0) Done Spent) where
-  report_is : report_of old.counts new.counts steps e ≡ run_report (tally_in old) (many_steps m depth budget (beginning m (tally_in old)))
-  report_is = ap (report_of old.counts new.counts steps) (ending_told m new line fs order e is-end) ∙ ap (run_report (tally_in old)) made
+    (e : Ending) (is-end : e ≡ cond (eqb (length line) 0 && eqb (length fs) 0) Done Spent) (counts : Counts) (made-counts : counts ≡ since old.counts new.counts) where
+  abbrev report : Report
+  report = record { steps = steps; counts = counts; ending = e }
 
-  pub run_ruled : Ruled (run_answer depth budget) (run_tally depth budget) m old new (Ok (report_of old.counts new.counts steps e))
+  report_is : report ≡ run_report (tally_in old) (many_steps m depth budget (beginning m (tally_in old)))
+  report_is = ap (λ z. record { steps = steps; counts = z; ending = e }) made-counts ∙ ap (report_of old.counts new.counts steps) (ending_told m new line fs order e is-end) ∙ ap (run_report (tally_in old)) made
+
+  pub run_ruled : Ruled (run_answer depth budget) (run_tally depth budget) m old new (Ok report)
   unfolding ran
   run_ruled = record {
     answered = ap Ok report_is ∙ sym (ap (run_answer depth budget m) (open_tally m old was) ∙ cond-true {A = Result Report Refusal} (between 1 128 depth) _ _ in');
@@ -202,7 +206,7 @@ module _ (m : Meaning) (sound : Sound m) (depth budget : ℕ) (old new : Books) 
     refused = λ h. absurd (both_ways true h refl);
   }
 
-  pub run_reported : 1 ≤ depth → Reports budget (tally_in old) (tally_in new) (report_of old.counts new.counts steps e)
+  pub run_reported : 1 ≤ depth → Reports budget (tally_in old) (tally_in new) report
   unfolding beginning
   run_reported deep =
       subst (Reports budget (tally_in old) (tally_in new)) (sym report_is)

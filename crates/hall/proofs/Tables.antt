@@ -3,7 +3,7 @@ use Rattle.std.proofs.Common.{◌≡◌, ℕ, zero, suc, ◌^◌, ◌<◌, ◌�
 use mathlib.Core.HLevel.{is_prop→PathP}
 use mathlib.Core.Logic.{∥∥₁_prop}
 use Rattle.std.proofs.lemmas.List.{take-replicate, get_or-take, get_or_default}
-use Rattle.std.proofs.lemmas.Bool.{cases_Bool, and_from, and_parts, eq-eqb, eqb-true, cond-true, cond-false}
+use Rattle.std.proofs.lemmas.Bool.{cases_Bool, and_left, and_from, and_parts, eq-eqb, eqb-true, cond-true, cond-false}
 use Rattle.sources.specs.Meaning.{Meaning}
 use Rattle.auction.specs.declared.standing.Counts.{Counts}
 use Rattle.auction.specs.declared.standing.Standing.{Standing}
@@ -12,8 +12,11 @@ use Rattle.auction.specs.Tally.{Tally, standing_at}
 use Rattle.auction.specs.Rules.{start_answer, start_tally, start_tally_by, no_counts, opened, freed, stands}
 use Rattle.auction.specs.Consistent.{Consistent, Limits}
 use Rattle.auction.proofs.Matching.{some_same}
-use Rattle.auction.proofs.Keeping.{limits_from_ok, opened_consistent}
+use Rattle.auction.proofs.Keeping.{opened_consistent}
 use Rattle.hall.specs.declared.books.Books.{Books}
+use Rattle.sources.specs.Tables.{heading_of}
+use Rattle.sources.specs.declared.form.Heading.{Heading}
+use Rattle.hall.specs.Steps.{NotedOf}
 use Rattle.hall.specs.Kept.{Kept, tally_held}
 use Rattle.hall.specs.InBooks.{is_open, tally_in, tally_of}
 use Rattle.hall.proofs.Keeps.{kept_out, kept_by}
@@ -57,6 +60,10 @@ open_tally m b e = cond-true (is_open m b) (Some (tally_in b)) None e
 pub shut_tally : (m : Meaning) (b : Books) → is_open m b ≡ false → tally_of m b ≡ None
 unfolding tally_of
 shut_tally m b e = cond-false (is_open m b) (Some (tally_in b)) None e
+
+-- Books that were never started.
+pub new_tally : (m : Meaning) (b : Books) → b.started ≡ false → tally_of m b ≡ None
+new_tally m b e = shut_tally m b (and_left b.started (eqb b.carriers m.carriers && (eqb b.jobs m.jobs && eqb b.ceiling m.ceiling)) e)
 
 -- Books whose tally is there are open, and hold it.
 pub has_tally : (m : Meaning) (b : Books) (t : Tally) → tally_of m b ≡ Some t → (is_open m b ≡ true) × (tally_in b ≡ t)
@@ -107,39 +114,21 @@ stands_in b i s n =
 
 -- ---- books just opened
 
-pub opened_is : (carriers jobs step lanes : ℕ) → carriers ≤ 128 → jobs ≤ 256 →
-    tally_held carriers jobs step lanes (replicate 256 0) (replicate 256 None) (replicate 128 Waiting) no_counts ≡ opened carriers jobs step lanes
-unfolding opened
-opened_is carriers jobs step lanes c j =
-    same_tally (tally_held carriers jobs step lanes (replicate 256 0) (replicate 256 None) (replicate 128 Waiting) no_counts) (opened carriers jobs step lanes) refl refl
-    (take-replicate jobs 256 0 j) (take-replicate jobs 256 None j) (take-replicate carriers 128 Waiting c) refl
+pub all_zero : (n : Counts) → n.summonses ≡ 0 → n.awards ≡ 0 → n.stales ≡ 0 → n.outs ≡ 0 → n ≡ no_counts
+all_zero n a b c d = λ i. record { summonses = a i; awards = b i; stales = c i; outs = d i }
 
-pub opened_keeps : (carriers jobs ceiling step lanes : ℕ) → Limits carriers jobs ceiling step lanes →
-    Kept carriers jobs ceiling step lanes (replicate 256 0) (replicate 256 None) (replicate 128 Waiting) no_counts
-opened_keeps carriers jobs ceiling step lanes lim =
-    kept_by (opened carriers jobs step lanes) refl refl refl (opened_is carriers jobs step lanes lim.few_carriers lim.few_jobs) (opened_consistent carriers jobs ceiling step lanes lim)
+module _ (carriers jobs ceiling step lanes : ℕ) (lim : Limits carriers jobs ceiling step lanes) (n : Counts) (zero-is : n ≡ no_counts) where
+  pub opened_is : tally_held carriers jobs step lanes (replicate 256 0) (replicate 256 None) (replicate 128 Waiting) n ≡ opened carriers jobs step lanes
+  unfolding opened
+  opened_is =
+      same_tally (tally_held carriers jobs step lanes (replicate 256 0) (replicate 256 None) (replicate 128 Waiting) n) (opened carriers jobs step lanes) refl refl
+      (take-replicate jobs 256 0 lim.few_jobs) (take-replicate jobs 256 None lim.few_jobs) (take-replicate carriers 128 Waiting lim.few_carriers) zero-is
 
--- The limits of a source, at the numbers that it told.
-pub limits_at : (m : Meaning) (c j k step lanes : ℕ) → c ≡ m.carriers → j ≡ m.jobs → k ≡ m.ceiling → Limits m.carriers m.jobs m.ceiling step lanes → Limits c j k step lanes
-limits_at m c j k step lanes p q r lim = record {
-  few_carriers = omega (arith, p, lim.few_carriers);
-  few_jobs = omega (arith, q, lim.few_jobs);
-  low_ceiling = omega (arith, r, lim.low_ceiling);
-  some_step = lim.some_step;
-  low_step = lim.low_step;
-  some_lanes = lim.some_lanes;
-  few_lanes = lim.few_lanes;
-}
+  pub opened_keeps : Kept carriers jobs ceiling step lanes (replicate 256 0) (replicate 256 None) (replicate 128 Waiting) n
+  opened_keeps = kept_by (opened carriers jobs step lanes) refl refl refl opened_is (opened_consistent carriers jobs ceiling step lanes lim)
 
-pub opened_tally : (m : Meaning) (step lanes : ℕ) (b : Books) (o : Option Tally) → b.started ≡ true → b.carriers ≡ m.carriers → b.jobs ≡ m.jobs → b.ceiling ≡ m.ceiling →
-    b.step ≡ step → b.lanes ≡ lanes → b.prices ≡ replicate 256 0 → b.holders ≡ replicate 256 None → b.standings ≡ replicate 128 Waiting → b.counts ≡ no_counts →
-    start_answer step lanes m ≡ Ok tt → tally_of m b ≡ start_tally step lanes m o
-opened_tally m step lanes b o s c j l sp la p h st n ok =
-    let lim = limits_from_ok m step lanes ok in
-    open_tally m b (is_open_lem m b s c j l)
-    ∙ ap Some (same_tally (tally_in b) (tally_held m.carriers m.jobs step lanes (replicate 256 0) (replicate 256 None) (replicate 128 Waiting) no_counts) sp la
-    (ap (λ x. take x b.prices) j ∙ ap (take m.jobs) p)
-    (ap (λ x. take x b.holders) j ∙ ap (take m.jobs) h)
-    (ap (λ x. take x b.standings) c ∙ ap (take m.carriers) st) n
-    ∙ opened_is m.carriers m.jobs step lanes lim.few_carriers lim.few_jobs)
-    ∙ sym (ap (λ r. start_tally_by r (opened m.carriers m.jobs step lanes) o) ok)
+pub opened_tally : (m : Meaning) (h : Heading) (step lanes : ℕ) (b : Books) (o : Option Tally) → h ≡ heading_of m → b.started ≡ true → NotedOf h b →
+    tally_in b ≡ opened h.carriers h.jobs step lanes → start_answer step lanes m ≡ Ok tt → tally_of m b ≡ start_tally step lanes m o
+opened_tally m h step lanes b o q s n e ok =
+    open_tally m b (is_open_lem m b s (n.carriers_is ∙ ap (λ z. z.carriers) q) (n.jobs_is ∙ ap (λ z. z.jobs) q) (n.ceiling_is ∙ ap (λ z. z.ceiling) q))
+    ∙ ap Some (e ∙ ap (λ z. opened z.carriers z.jobs step lanes) q) ∙ sym (ap (λ r. start_tally_by r (opened m.carriers m.jobs step lanes) o) ok)

@@ -1,8 +1,9 @@
 -- What the private functions of the books answer and leave.
 use Rattle.std.specs.Prelude.{◌≡◌, ℕ, cond, Ok, Err, Result, nat_lt}
 use Rattle.sources.specs.Meaning.{Meaning}
+use Rattle.sources.specs.declared.form.Heading.{Heading}
 use Rattle.refusals.specs.declared.Refusal.{Refusal}
-use Rattle.refusals.specs.declared.Refusal.TheVariants.{NeverStarted, NoSuchCarrier}
+use Rattle.refusals.specs.declared.Refusal.TheVariants.{NeverStarted, NoSuchCarrier, NoSuchJob}
 use Rattle.auction.specs.declared.standing.Bid.{Bid}
 use Rattle.auction.specs.declared.standing.Act.{Act}
 use Rattle.auction.specs.declared.standing.Counts.{Counts}
@@ -12,9 +13,15 @@ use Rattle.auction.specs.Rules.{counted}
 use Rattle.hall.specs.declared.books.Books.{Books}
 use Rattle.hall.specs.InBooks.{is_open}
 
--- Whether the hall was started is checked first, the carrier number then.
+-- Whether the hall was started is checked first, the number of the carrier or job then.
+abbrev pub admitted_below : ℕ → Refusal → Meaning → ℕ → Books → Result (Unit {0}) Refusal
+admitted_below n e m i b = cond (is_open m b) (cond (nat_lt i n) (Ok tt) (Err e)) (Err NeverStarted)
+
 abbrev pub admitted : Meaning → ℕ → Books → Result (Unit {0}) Refusal
-admitted m i b = cond (is_open m b) (cond (nat_lt i b.carriers) (Ok tt) (Err NoSuchCarrier)) (Err NeverStarted)
+admitted m i b = admitted_below b.carriers NoSuchCarrier m i b
+
+abbrev pub admitted_job : Meaning → ℕ → Books → Result (Unit {0}) Refusal
+admitted_job m j b = admitted_below b.jobs NoSuchJob m j b
 
 -- A bid that is begun or carried on is the carrier's standing after.
 abbrev pub standing_after : Standing → Result Bid Refusal → Standing
@@ -24,6 +31,12 @@ standing_after s (Err e) = s
 abbrev pub counts_after : Act → Counts → Result Bid Refusal → Counts
 counts_after act n (Ok b) = counted act n
 counts_after act n (Err e) = n
+
+-- What is noted are the three numbers of a source.
+pub record NotedOf (h : Heading) (b : Books) : Type 0 where
+  pub carriers_is : b.carriers ≡ h.carriers
+  pub jobs_is : b.jobs ≡ h.jobs
+  pub ceiling_is : b.ceiling ≡ h.ceiling
 
 -- What start noted is as it was.
 pub record Noted (old new : Books) : Type 0 where

@@ -1,16 +1,12 @@
 // The hall and its calls.
-ghost use Rattle.std.specs.Prelude.{◌≡◌, true, IfOk, None, OnOk};
+ghost use Rattle.std.specs.Prelude.{◌≡◌, false, is_ok, IfOk, None, OnOk};
 ghost use Rattle.hall.specs.InBooks.{tally_in, tally_of};
 ghost use Rattle.hall.specs.Ruled.{Ruled};
 ghost use Rattle.auction.specs.Looks.{Looks};
 ghost use Rattle.auction.specs.Rules.{start_answer, start_tally, summon_answer, summon_tally, look_answer, look_tally, settle_answer, settle_tally};
 ghost use Rattle.auction.specs.Runs.{Reports, run_answer, run_tally};
-ghost use Rattle.auction.specs.Calls.{price_answer, holder_answer, standing_answer, worth_answer, counts_answer, answer_to, is_refused, tally_by};
+ghost use Rattle.auction.specs.Calls.{price_answer, holder_answer, standing_answer, worth_answer, counts_answer, answer_to, tally_by};
 
-use crate::answering::{
-    tell_counts, tell_holder, tell_price, tell_report, tell_standing, tell_success, tell_verdict,
-    tell_worth,
-};
 use crate::books::Books;
 use auction::call::{Answer, Call};
 use auction::standing::{Counts, Report, Standing, Verdict};
@@ -120,23 +116,24 @@ impl<S: Source> Hall<S> {
     }
 
     // Makes one call, and gives its answer.
-    pub fn perform(&mut self, call: Call) -> Answer
+    #[tactic(auto, unfolding(auction::specs::Calls::answer_to, auction::specs::Calls::tally_by))]
+    pub fn perform(&mut self, call: Call) -> Result<Answer, Refusal>
         ensures answered { result ≡ answer_to (S.meaning self.old.source) (tally_of (S.meaning self.old.source) self.old.books) call }
         ensures tallied { tally_of (S.meaning self.old.source) self.new.books ≡ tally_by (S.meaning self.old.source) (tally_of (S.meaning self.old.source) self.old.books) call }
-        ensures refused { is_refused result ≡ true → self.new.books ≡ self.old.books }
+        ensures refused { is_ok result ≡ false → self.new.books ≡ self.old.books }
         ensures kept { self.new.source ≡ self.old.source }
     {
         match call {
-            Call::Start { step, lanes } => tell_success(self.start(step, lanes)),
-            Call::Summon(carrier) => tell_success(self.summon(carrier)),
-            Call::Look(carrier) => tell_success(self.look(carrier)),
-            Call::Settle(carrier) => tell_verdict(self.settle(carrier)),
-            Call::Run { depth, budget } => tell_report(self.run(depth, budget)),
-            Call::PriceOf(job) => tell_price(self.price(job)),
-            Call::HolderOf(job) => tell_holder(self.holder(job)),
-            Call::StandingOf(carrier) => tell_standing(self.standing(carrier)),
-            Call::TotalWorth => tell_worth(self.worth()),
-            Call::AllCounts => tell_counts(self.counts()),
+            Call::Start { step, lanes } => self.start(step, lanes).map(|()| Answer::Accepted),
+            Call::Summon(carrier) => self.summon(carrier).map(|()| Answer::Accepted),
+            Call::Look(carrier) => self.look(carrier).map(|()| Answer::Accepted),
+            Call::Settle(carrier) => self.settle(carrier).map(Answer::Settled),
+            Call::Run { depth, budget } => self.run(depth, budget).map(Answer::Ran),
+            Call::PriceOf(job) => self.price(job).map(Answer::Price),
+            Call::HolderOf(job) => self.holder(job).map(Answer::Holder),
+            Call::StandingOf(carrier) => self.standing(carrier).map(Answer::Stands),
+            Call::TotalWorth => self.worth().map(Answer::Worth),
+            Call::AllCounts => self.counts().map(Answer::Counted),
         }
     }
 }

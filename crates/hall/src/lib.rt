@@ -1,7 +1,6 @@
 // The hall: an auction over any source of worth, call by call, and lists of calls.
 #![tactic(auto)]
 
-mod answering;
 pub mod books;
 pub mod hall;
 pub mod replay;

@@ -12,7 +12,7 @@ use sources::source::Source;
 pub fn replay<S: Source>(
     source: S,
     calls: &[Call],
-    answers: &mut [Answer],
+    answers: &mut [Result<Answer, Refusal>],
 ) -> (Hall<S>, Result<(), Refusal>)
     ensures kept { result.0.source ≡ source }
     ensures fits { result.1 ≡ (if nat_le (length calls.now) (length answers.old) then Ok tt else Err Refusal.TooShort) }
@@ -23,6 +23,7 @@ pub fn replay<S: Source>(
     if calls.len() > answers.len() {
         return (hall, Err(Refusal::TooShort));
     }
+    // By index: after a zip with `iter_mut` a proof knows how many answers there are, and not what was written.
     for (i, call) in calls.iter().enumerate() {
         answers[i] = hall.perform(*call);
     }

@@ -2,56 +2,34 @@
 ghost use Rattle.std.specs.Prelude.{◌≡◌, ℕ, ◌^◌, ◌<◌, ◌≤◌, false, length, take, is_ok, Some, None, OnOk, slice_index};
 ghost use Rattle.sources.specs.Meaning.{Meaning, row_of};
 ghost use Rattle.auction.specs.Bids.{looked_on, judged, best_worth};
-ghost use Rattle.auction.specs.Consistent.{BidSound};
+ghost use Rattle.auction.specs.Consistent.{Limits, BidSound};
 ghost use Rattle.auction.specs.Looks.{Looks};
-ghost use Rattle.auction.specs.Rules.{between, in_limits, start_answer, start_tally, bid_after, bid_by, once, called, summon_answer, summon_tally, look_answer, look_tally, freed, verdict_in, carried_out, settle_answer, settle_tally};
+ghost use Rattle.auction.specs.Rules.{opened, start_answer, start_tally, bid_after, bid_by, once, called, summon_answer, summon_tally, look_answer, look_tally, freed, verdict_in, carried_out, settle_answer, settle_tally};
 ghost use Rattle.auction.specs.Tally.{standing_at};
 ghost use Rattle.hall.specs.InBooks.{tally_in, tally_of, is_open};
 ghost use Rattle.hall.specs.Ruled.{Ruled};
-ghost use Rattle.hall.specs.Steps.{Noted, admitted, counts_after, standing_after};
+ghost use Rattle.hall.specs.Steps.{NotedOf, Noted, admitted, counts_after, standing_after};
 
 use super::Books;
 use crate::weighing::{best_worth, weighed};
 use auction::standing::{Act, Award, Bid, Counts, Held, Standing, Verdict};
 use refusals::Refusal;
+use sources::asking::{heading_of, row_length};
+use sources::checks::within_limits;
+use sources::form::Heading;
 use sources::source::Source;
-
-pub(super) fn within(low: u64, high: u64, n: u64) -> bool
-    ensures { result ≡ between low high n }
-{
-    low <= n && n <= high
-}
-
-// Whether carriers, jobs and ceiling are within the limits of a hall.
-fn in_limits<S: Source>(source: &S) -> bool
-    ensures { result ≡ in_limits (S.meaning source.now) }
-{
-    within(1, 128, source.carriers() as u64)
-        && within(1, 256, source.jobs() as u64)
-        && source.ceiling() <= 1 << 36
-}
 
 fn check_start<S: Source>(source: &S, step: u64, lanes: usize) -> Result<(), Refusal>
     ensures { result ≡ start_answer step lanes (S.meaning source.now) }
 {
-    if !in_limits(source) {
+    if !within_limits(heading_of(source)) {
         Err(Refusal::CountsOutside)
-    } else if !within(1, 1 << 36, step) {
+    } else if !(1..=1 << 36).contains(&step) {
         Err(Refusal::StepOutside)
-    } else if !within(1, 32, lanes as u64) {
+    } else if !(1..=32).contains(&lanes) {
         Err(Refusal::LanesOutside)
     } else {
         Ok(())
-    }
-}
-
-// How many entries the carrier's row has.
-fn row_length<S: Source>(source: &S, carrier: usize) -> usize
-    ensures { result ≡ length (row_of (S.meaning source.now) carrier) }
-{
-    match source.row_len(carrier) {
-        Some(n) => n,
-        None => 0,
     }
 }
 
@@ -159,27 +137,37 @@ fn free(standings: &mut [Standing; 128], former: Option<usize>)
 }
 
 impl Books {
+    // Every price is 0, nobody holds a job, every carrier waits, and every count is 0.
+    fn fresh(started: bool, heading: Heading, step: u64, lanes: usize) -> Self
+        requires { Limits heading.carriers heading.jobs heading.ceiling step lanes }
+        ensures flag { result.started ≡ started }
+        ensures noted { NotedOf heading result }
+        ensures opened { tally_in result ≡ opened heading.carriers heading.jobs step lanes }
+    {
+        Books {
+            started,
+            carriers: heading.carriers,
+            jobs: heading.jobs,
+            ceiling: heading.ceiling,
+            step,
+            lanes,
+            prices: [0; 256],
+            holders: [None; 256],
+            standings: [Standing::Waiting; 128],
+            counts: Counts::default(),
+        }
+    }
+
     // Never started.
     pub(crate) fn new() -> Self
         ensures { (m : Meaning) → tally_of m result ≡ None }
     {
-        Books {
-            started: false,
+        let nothing = Heading {
             carriers: 0,
             jobs: 0,
             ceiling: 0,
-            step: 1,
-            lanes: 1,
-            prices: [0; 256],
-            holders: [None; 256],
-            standings: [Standing::Waiting; 128],
-            counts: Counts {
-                summonses: 0,
-                awards: 0,
-                stales: 0,
-                outs: 0,
-            },
-        }
+        };
+        Books::fresh(false, nothing, 1, 1)
     }
 
     // Whether these books were started for what the source is.
@@ -201,26 +189,12 @@ impl Books {
         ensures { Ruled (λ m _. start_answer step lanes m) (start_tally step lanes) (S.meaning source.now) self.old self.new result }
     {
         check_start(source, step, lanes)?;
-        self.started = true;
-        self.carriers = source.carriers();
-        self.jobs = source.jobs();
-        self.ceiling = source.ceiling();
-        self.step = step;
-        self.lanes = lanes;
-        self.prices = [0; 256];
-        self.holders = [None; 256];
-        self.standings = [Standing::Waiting; 128];
-        self.counts = Counts {
-            summonses: 0,
-            awards: 0,
-            stales: 0,
-            outs: 0,
-        };
+        *self = Books::fresh(true, heading_of(source), step, lanes);
         Ok(())
     }
 
     // Whether the hall was started, then whether there is such a carrier.
-    fn admit<S: Source>(&self, source: &S, carrier: usize) -> Result<(), Refusal>
+    pub(super) fn admit<S: Source>(&self, source: &S, carrier: usize) -> Result<(), Refusal>
         ensures { result ≡ admitted (S.meaning source.now) carrier self.now }
     {
         if !self.is_open(source) {

@@ -1,8 +1,9 @@
 // The questions, on books and the source that they are kept for. They tell what the tally holds.
-ghost use Rattle.std.specs.Prelude.{◌≡◌, take, sum_by};
+ghost use Rattle.std.specs.Prelude.{◌≡◌, ◌^◌, ◌<◌, sum_by};
 ghost use Rattle.auction.specs.Tally.{worth_served};
 ghost use Rattle.auction.specs.Calls.{price_answer, holder_answer, standing_answer, worth_answer, counts_answer};
 ghost use Rattle.hall.specs.InBooks.{tally_of};
+ghost use Rattle.hall.specs.Steps.{admitted_job};
 
 use super::Books;
 use auction::standing::{Counts, Standing};
@@ -19,28 +20,39 @@ fn worth_served(standing: Standing) -> u64
     }
 }
 
+// The sum of what the served carriers' jobs are worth.
+fn total_worth(standings: &[Standing]) -> u64
+    requires { sum_by worth_served standings.now < 2 ^ 64 }
+    ensures { result ≡ sum_by worth_served standings.now }
+{
+    standings.iter().copied().map(worth_served).sum()
+}
+
 impl Books {
+    // Whether the hall was started, then whether there is such a job.
+    fn admit_job<S: Source>(&self, source: &S, job: usize) -> Result<(), Refusal>
+        ensures { result ≡ admitted_job (S.meaning source.now) job self.now }
+    {
+        if !self.is_open(source) {
+            Err(Refusal::NeverStarted)
+        } else if job >= self.jobs {
+            Err(Refusal::NoSuchJob)
+        } else {
+            Ok(())
+        }
+    }
+
     pub(crate) fn price<S: Source>(&self, source: &S, job: usize) -> Result<u64, Refusal>
         ensures { result ≡ price_answer job (S.meaning source.now) (tally_of (S.meaning source.now) self.now) }
     {
-        if !self.is_open(source) {
-            return Err(Refusal::NeverStarted);
-        }
-        if job >= self.jobs {
-            return Err(Refusal::NoSuchJob);
-        }
+        self.admit_job(source, job)?;
         Ok(self.prices[job])
     }
 
     pub(crate) fn holder<S: Source>(&self, source: &S, job: usize) -> Result<Option<usize>, Refusal>
         ensures { result ≡ holder_answer job (S.meaning source.now) (tally_of (S.meaning source.now) self.now) }
     {
-        if !self.is_open(source) {
-            return Err(Refusal::NeverStarted);
-        }
-        if job >= self.jobs {
-            return Err(Refusal::NoSuchJob);
-        }
+        self.admit_job(source, job)?;
         Ok(self.holders[job])
     }
 
@@ -51,25 +63,8 @@ impl Books {
     ) -> Result<Standing, Refusal>
         ensures { result ≡ standing_answer carrier (S.meaning source.now) (tally_of (S.meaning source.now) self.now) }
     {
-        if !self.is_open(source) {
-            return Err(Refusal::NeverStarted);
-        }
-        if carrier >= self.carriers {
-            return Err(Refusal::NoSuchCarrier);
-        }
+        self.admit(source, carrier)?;
         Ok(self.standings[carrier])
-    }
-
-    // The sum of what the served carriers' jobs are worth.
-    fn total_worth(&self) -> u64
-        ensures { result ≡ sum_by worth_served (take self.now.carriers self.now.standings) }
-    {
-        let mut total = 0;
-        for carrier in 0..self.carriers {
-            let standing = self.standings[carrier];
-            total += worth_served(standing);
-        }
-        total
     }
 
     pub(crate) fn worth<S: Source>(&self, source: &S) -> Result<u64, Refusal>
@@ -78,7 +73,7 @@ impl Books {
         if !self.is_open(source) {
             return Err(Refusal::NeverStarted);
         }
-        Ok(self.total_worth())
+        Ok(total_worth(&self.standings[..self.carriers]))
     }
 
     pub(crate) fn counts<S: Source>(&self, source: &S) -> Result<Counts, Refusal>

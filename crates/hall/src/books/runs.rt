@@ -4,15 +4,14 @@ ghost use Rattle.sources.specs.Meaning.{row_of};
 ghost use Rattle.rings.specs.Held.{held, room};
 ghost use Rattle.auction.specs.declared.standing.Act.TheVariants.{Summon};
 ghost use Rattle.auction.specs.Rules.{called};
-ghost use Rattle.auction.specs.Runs.{in_flight, looks_for, gathered, if_waiting, if_bidding, waits_after, first_acts, one_step, many_steps, Reports, run_answer, run_tally};
+ghost use Rattle.auction.specs.Runs.{in_flight, looks_for, gathered, if_waiting, if_bidding, since, waits_after, first_acts, one_step, many_steps, Reports, run_answer, run_tally};
 ghost use Rattle.auction.specs.InOrder.{Ordered, Grown};
 ghost use Rattle.hall.specs.InBooks.{is_open, tally_in};
 ghost use Rattle.hall.specs.Ruled.{Ruled};
 ghost use Rattle.hall.specs.RunSteps.{state_in, Became};
 
 use super::Books;
-use super::calls::within;
-use auction::standing::{Ending, InFlight, Report, Standing, Verdict};
+use auction::standing::{Counts, Ending, InFlight, Report, Standing, Verdict};
 use refusals::Refusal;
 use rings::Ring;
 use sources::asking::row_length;
@@ -26,6 +25,19 @@ fn looks_for(lanes: usize, entries: usize) -> usize
     ensures { result ≡ looks_for lanes entries }
 {
     (entries + (lanes - 1)) / lanes
+}
+
+// What was counted between two counts.
+fn since(before: Counts, after: Counts) -> Counts
+    requires { Grown before after }
+    ensures { result ≡ since before after }
+{
+    Counts {
+        summonses: after.summonses - before.summonses,
+        awards: after.awards - before.awards,
+        stales: after.stales - before.stales,
+        outs: after.outs - before.outs,
+    }
 }
 
 // The carrier that waits after this one has settled.
@@ -200,15 +212,13 @@ impl Books {
         ensures ordered { Ordered (S.meaning source.now) (state_in self.new (held line.new) (held flight.new) 0) }
         ensures grown { Grown self.old.counts self.new.counts }
     {
-        let mut steps = 0;
-        for _made in 0..budget {
+        for made in 0..budget {
             if is_idle(line, flight) {
-                break;
+                return made;
             }
             self.step(source, depth, line, flight);
-            steps += 1;
         }
-        steps
+        budget
     }
 
     pub(crate) fn run<S: Source>(
@@ -223,7 +233,7 @@ impl Books {
         if !self.is_open(source) {
             return Err(Refusal::NeverStarted);
         }
-        if !within(1, 128, depth as u64) {
+        if !(1..=128).contains(&depth) {
             return Err(Refusal::DepthOutside);
         }
         let before = self.counts;
@@ -238,10 +248,7 @@ impl Books {
         let steps = self.make_steps(source, depth, budget, &mut line, &mut flight);
         Ok(Report {
             steps,
-            summonses: self.counts.summonses - before.summonses,
-            awards: self.counts.awards - before.awards,
-            stales: self.counts.stales - before.stales,
-            outs: self.counts.outs - before.outs,
+            counts: since(before, self.counts),
             ending: ending_of(&line, &flight),
         })
     }

@@ -11,8 +11,7 @@ abbrev pub invariant-loop-made : goal.invariant-loop-made
 invariant-loop-made g l =
     (is_open (g.S.Source.meaning l.source) l.self ≡ true)
     × Ordered (g.S.Source.meaning l.source) (state_in l.self (held l.line) (held l.flight) 0)
-    × (many_steps (g.S.Source.meaning l.source) l.depth (l.budget - l._made) (state_in l.self (held l.line) (held l.flight) l.steps)
+    × (many_steps (g.S.Source.meaning l.source) l.depth (l.budget - l.made) (state_in l.self (held l.line) (held l.flight) l.made)
     ≡ many_steps (g.S.Source.meaning l.source) l.depth l.budget (state_in l.initial.self (held l.initial.line) (held l.initial.flight) 0))
     × (room l.line ≡ 128)
     × (room l.flight ≡ 128)
-    × (l.steps ≡ l._made)

@@ -1,26 +1,20 @@
-use Rattle.std.proofs.Common.{◌<◌, sym, ap, rules}
-use Rattle.auction.specs.Calls.{price_answer}
-use Rattle.hall.proofs.Tables.{shut_tally}
-use Rattle.hall.proofs.Questions.{known_job, price_past, price_told}
+use Rattle.std.proofs.Common.{◌<◌, Err, ap, ◌∙◌, rules}
+use Rattle.std.proofs.lemmas.Result.{err_from_is_err_and}
+use Rattle.hall.proofs.Questions.{known_job, price_refused, price_told}
 use Rattle.hall.proofs.books.Books.price.Goals as goal
 
-pub returns-then-not-is_open : goal.returns-then-not-is_open
-returns-then-not-is_open g c =
-    let m = g.S.Source.meaning c.args.source.now in
-    sym (ap (price_answer c.args.job m) (shut_tally m c.args.self.now (sym c.if-not-is_open.ensures)))
-
-pub returns-then-job-self : goal.returns-then-job-self
-returns-then-job-self g c =
-    price_past (g.S.Source.meaning c.args.source.now) c.args.self.now (sym c.if-not-is_open.ensures) c.args.job c.if-job-self.true
+pub returns-in_err-admit_job : goal.returns-in_err-admit_job
+returns-in_err-admit_job g c =
+    let p = err_from_is_err_and c.from_residual.result c.from_residual.ensures.1 in
+    p.1 ∙ ap Err p.2 ∙ price_refused (g.S.Source.meaning c.args.source.now) c.args.self.now c.args.job _ c.in_err-admit_job.ensures
 
 pub offset_bounds-self-job : goal.offset_bounds-self-job
 offset_bounds-self-job g c =
-    let l : c.args.job < 256 = known_job c.args.self.now c.args.job c.if-job-self.false in
+    let l : c.args.job < 256 = known_job (g.S.Source.meaning c.args.source.now) c.args.self.now c.args.job c.in_ok-admit_job.ensures in
     search rules
 
 pub bounds-self-job : goal.bounds-self-job
-bounds-self-job g c = known_job c.args.self.now c.args.job c.if-job-self.false
+bounds-self-job g c = known_job (g.S.Source.meaning c.args.source.now) c.args.self.now c.args.job c.in_ok-admit_job.ensures
 
 pub returns : goal.returns
-returns g c =
-    price_told (g.S.Source.meaning c.args.source.now) c.args.self.now (sym c.if-not-is_open.ensures) c.args.job c.if-job-self.false
+returns g c = price_told (g.S.Source.meaning c.args.source.now) c.args.self.now c.args.job c.in_ok-admit_job.ensures
