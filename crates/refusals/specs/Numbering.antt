@@ -1,5 +1,6 @@
-use Rattle.std.specs.Prelude.{◌≡◌, ℕ, ◌≤◌, Some, None, Option, ◌≢◌}
+use Rattle.std.specs.Prelude.{◌≡◌, ℕ, ◌≤◌, List, ◌++◌, Some, None, Ok, Err, Option, Result, ◌≢◌, codes, decimal}
 use Rattle.refusals.specs.declared.Refusal.{Refusal}
+use Rattle.refusals.specs.declared.UnknownNumber.{UnknownNumber}
 use Rattle.refusals.specs.declared.Refusal.TheVariants.{
   NumberCut,
   NumberTooLong,
@@ -60,3 +61,12 @@ pub record Numbered : Type 0 where
 abbrev pub Named : ℕ → Option Refusal → Type 0
 Named n (Some a) = number_of a ≡ n
 Named n None = (a : Refusal) → number_of a ≢ n
+
+-- The same, with the number that no refusal has.
+abbrev pub NamedOrNot : ℕ → Result Refusal UnknownNumber → Type 0
+NamedOrNot n (Ok a) = Named n (Some a)
+NamedOrNot n (Err e) = (e.number ≡ n) × Named n None
+
+-- A number that no refusal has, as it is printed.
+abbrev pub unknown_text : UnknownNumber → List ℕ
+unknown_text e = codes "no refusal has the number " ++ decimal e.number

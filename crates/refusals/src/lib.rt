@@ -1,18 +1,15 @@
 #![tactic(auto)]
 
-ghost use Rattle.std.specs.Prelude.{◌≡◌, ◌↔◌, IsTrue, Some, nat_eq};
-ghost use Rattle.std.specs.Ordering.{on};
-ghost use Rattle.refusals.specs.Numbering.{number_of, Named, Numbered};
+ghost use Rattle.std.specs.Prelude.{◌≡◌, Some};
+ghost use Rattle.refusals.specs.Numbering.{number_of, Named, NamedOrNot, Numbered, unknown_text};
 ghost use Rattle.refusals.specs.Reasons.{reason_of, refusal_text};
 ghost use Rattle.refusals.specs.Faults.{fault_at, fault_of, fault_text};
-ghost use Rattle.std.specs.Cmp.Rules.{comparing};
-ghost use Rattle.std.proofs.Common.{rules};
-ghost use Rattle.std.specs.Cmp as Keys;
 
+use std::error::Error;
 use std::fmt;
 
 // Why a call is refused. The list is closed, and a refused call alters nothing.
-#[derive(Clone, Copy, Eq, Debug)]
+#[derive(Clone, Copy, Debug, PartialEq, Eq)]
 pub enum Refusal {
     // The bytes end before a number, or inside one before its sixth group.
     NumberCut = 1,
@@ -66,38 +63,14 @@ impl Refusal {
         ensures value { result ≡ number_of self }
         ensures numbering { Numbered }
     {
-        self as u8
+        u8::from(self)
     }
 
     // The refusal that has a number, if one has it.
     pub fn from_number(n: u8) -> Option<Refusal>
         ensures { Named n result }
     {
-        match n {
-            1 => Some(Refusal::NumberCut),
-            2 => Some(Refusal::NumberTooLong),
-            3 => Some(Refusal::NumberPadded),
-            4 => Some(Refusal::CountsOutside),
-            5 => Some(Refusal::JobOutOfOrder),
-            6 => Some(Refusal::WorthOutside),
-            7 => Some(Refusal::NoRowLeft),
-            8 => Some(Refusal::RowsMissing),
-            9 => Some(Refusal::TotalDiffers),
-            10 => Some(Refusal::BytesFollow),
-            11 => Some(Refusal::StartsUnfit),
-            12 => Some(Refusal::TooShort),
-            13 => Some(Refusal::NeverStarted),
-            14 => Some(Refusal::StepOutside),
-            15 => Some(Refusal::LanesOutside),
-            16 => Some(Refusal::NoSuchCarrier),
-            17 => Some(Refusal::NoSuchJob),
-            18 => Some(Refusal::NotWaiting),
-            19 => Some(Refusal::NoOpenBid),
-            20 => Some(Refusal::RowLookedAt),
-            21 => Some(Refusal::RowNotLookedAt),
-            22 => Some(Refusal::DepthOutside),
-            _ => None,
-        }
+        Refusal::try_from(n).ok()
     }
 
     // What the refusal says, in words.
@@ -135,17 +108,64 @@ impl Refusal {
     }
 }
 
-// Two refusals are equal exactly if their numbers are.
-impl PartialEq for Refusal {
-    ghost eq = { on number_of nat_eq };
+// The refusal's number.
+impl From<Refusal> for u8 {
+    ghost from_gives = { λ a n. n ≡ number_of a };
 
-    ghost laws = { Keys.partial_equiv_from_equiv (Prim.search (comparing, rules)) };
+    fn from(refusal: Refusal) -> u8 {
+        refusal as u8
+    }
+}
 
-    fn eq(&self, other: &Refusal) -> bool
-        ensures numbers { result ≡ nat_eq (number_of self.now) (number_of other.now) }
-        ensures same { IsTrue result ↔ (self.now ≡ other.now) }
-    {
-        self.number() == other.number()
+// A number that no refusal has.
+#[derive(Clone, Copy, PartialEq, Eq, Debug)]
+pub struct UnknownNumber {
+    pub number: u8,
+}
+
+impl fmt::Display for UnknownNumber {
+    ghost output = { λ x. Some (unknown_text x) };
+
+    fn fmt<W: fmt::Write>(&self, f: &mut fmt::Formatter<W>) -> fmt::Result {
+        let number = self.number;
+        write!(f, "no refusal has the number {number}")
+    }
+}
+
+impl Error for UnknownNumber {}
+
+// The refusal that has a number.
+impl TryFrom<u8> for Refusal {
+    type Error = UnknownNumber;
+
+    ghost try_from_gives = { NamedOrNot };
+
+    fn try_from(number: u8) -> Result<Refusal, UnknownNumber> {
+        match number {
+            1 => Ok(Refusal::NumberCut),
+            2 => Ok(Refusal::NumberTooLong),
+            3 => Ok(Refusal::NumberPadded),
+            4 => Ok(Refusal::CountsOutside),
+            5 => Ok(Refusal::JobOutOfOrder),
+            6 => Ok(Refusal::WorthOutside),
+            7 => Ok(Refusal::NoRowLeft),
+            8 => Ok(Refusal::RowsMissing),
+            9 => Ok(Refusal::TotalDiffers),
+            10 => Ok(Refusal::BytesFollow),
+            11 => Ok(Refusal::StartsUnfit),
+            12 => Ok(Refusal::TooShort),
+            13 => Ok(Refusal::NeverStarted),
+            14 => Ok(Refusal::StepOutside),
+            15 => Ok(Refusal::LanesOutside),
+            16 => Ok(Refusal::NoSuchCarrier),
+            17 => Ok(Refusal::NoSuchJob),
+            18 => Ok(Refusal::NotWaiting),
+            19 => Ok(Refusal::NoOpenBid),
+            20 => Ok(Refusal::RowLookedAt),
+            21 => Ok(Refusal::RowNotLookedAt),
+            22 => Ok(Refusal::DepthOutside),
+            _ => Err(UnknownNumber { number }),
+        }
     }
 }
 
@@ -159,6 +179,8 @@ impl fmt::Display for Refusal {
         write!(f, "{number}: {reason}")
     }
 }
+
+impl Error for Refusal {}
 
 // A refusal of a file. Some carry the byte place where the faulty number, or the surplus, begins.
 #[derive(Clone, Copy, PartialEq, Eq, Debug)]
@@ -189,19 +211,31 @@ impl Fault {
     }
 }
 
+// A refusal becomes a fault that has no place.
+impl From<Refusal> for Fault {
+    ghost from_gives = { λ r f. f ≡ fault_of r };
+
+    fn from(refusal: Refusal) -> Fault {
+        Fault::bare(refusal)
+    }
+}
+
 // The number, the place if there is one, and the reason, as `3 at 7: a number ..`.
 impl fmt::Display for Fault {
     ghost output = { λ x. Some (fault_text x) };
 
     fn fmt<W: fmt::Write>(&self, f: &mut fmt::Formatter<W>) -> fmt::Result {
-        let number = self.refusal.number();
-        let reason = self.refusal.reason();
+        let refusal = self.refusal;
+        let number = refusal.number();
+        let reason = refusal.reason();
         match self.place {
             Some(place) => write!(f, "{number} at {place}: {reason}"),
-            None => write!(f, "{number}: {reason}"),
+            None => write!(f, "{refusal}"),
         }
     }
 }
+
+impl Error for Fault {}
 
 #[cfg(test)]
 mod tests {
