@@ -3,9 +3,9 @@ use Rattle.refusals.specs.declared.Refusal.{Refusal}
 use Rattle.refusals.specs.declared.Refusal.TheVariants.{TooShort}
 use Rattle.numbers.specs.Groups.{encoded}
 
--- Bytes with others in their stead from a place on.
-abbrev pub over : List ℕ → ℕ → List ℕ → List ℕ
-over bytes at new = take at bytes ++ (new ++ drop (at + length new) bytes)
+-- A list with other elements in the stead of its own from a place on.
+abbrev pub over : {A : Type 0} → List A → ℕ → List A → List A
+over xs at new = take at xs ++ (new ++ drop (at + length new) xs)
 
 -- A number can be written at a place of so many bytes: it has at most six groups, and they end within the bytes.
 abbrev pub fits_at : ℕ → ℕ → ℕ → Bool
