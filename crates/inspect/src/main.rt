@@ -10,9 +10,9 @@ fn main(rt: HostRuntime) -> anyhow::Result<()> {
     rt.stdin()
         .take(MOST_BYTES as u64 + 1)
         .read_to_end(&mut bytes)?;
-    let report = inspect_sheet(rt.alloc(), &bytes)?;
-    rt.print(report.text.as_str())?;
-    match report.fault {
+    let printed = inspect_sheet(rt.alloc(), &bytes)?;
+    rt.print(printed.text.as_str())?;
+    match printed.refused {
         Some(_) => Err(anyhow!("refused")),
         None => Ok(()),
     }

@@ -1,39 +1,30 @@
 -- Lines that are added one behind the other.
-use Rattle.std.proofs.Common.{◌≡◌, ℕ, suc, ◌+◌, ◌*◌, ◌<◌, ◌≤◌, cond, List, [], ◌∷◌, ◌++◌, length, get_or, take, Some, None, Ok, Err, Result, sym, ap, ◌∙◌, subst, ⊎_elim, arith}
-use Rattle.std.proofs.lemmas.List.{append_assoc, append-nil, flat_map_more, length-take-le, take_more}
+use Rattle.std.proofs.Common.{◌≡◌, ℕ, suc, ◌+◌, ◌*◌, ◌<◌, ◌≤◌, true, ◌||◌, cond, List, [], ◌∷◌, ◌++◌, length, get_or, take, Ok, Err, Result, sym, ap, ◌∙◌, subst, arith}
+use Rattle.std.proofs.lemmas.List.{append_assoc, append-nil, length-take-le, take_more}
 use Rattle.std.proofs.ByRecursion.{All-from_get_or, All-take}
-use Rattle.std.proofs.lemmas.Option.{slice_get_past}
-use Rattle.std.proofs.lemmas.Bool.{cases_lt, le-leb}
-use Rattle.std.specs.List.{flat_map, AllByRecursion}
+use Rattle.std.proofs.lemmas.Bool.{le-leb}
+use Rattle.std.specs.List.{AllByRecursion}
 use Rattle.refusals.specs.declared.Fault.{Fault}
 use Rattle.refusals.specs.declared.Refusal.TheVariants.{TooShort}
 use Rattle.refusals.specs.Faults.{fault_of}
-use Rattle.sources.specs.Meaning.{Meaning, Sound, entry_at, row_of}
-use Rattle.sources.proofs.Reading.{entry_is, entry_read, row_length}
+use Rattle.sources.specs.declared.form.Heading.{Heading}
+use Rattle.sources.specs.Meaning.{Meaning, Sound}
+use Rattle.sources.specs.Sheets.{blank, within_limits}
+use Rattle.sources.proofs.Reading.{row_length}
 use Rattle.sheetfile.specs.Layout.{Row, entries_in}
 use Rattle.sheetfile.specs.Reading.{loaded}
 use Rattle.sheetfile.specs.Steps.{and_then, room_for, updated, without_value}
 use Rattle.sheetfile.specs.Writing.{rewrite_answer}
 use Rattle.sheetfile.proofs.Sheets.{entries_push}
-use Rattle.inspection.specs.Listing.{entry_text, heading_line, row_line, row_lines}
+use Rattle.inspection.specs.Listing.{row_line, row_lines}
 
 -- pieces of a text, one behind the other
 pub assembled : (t₀ t₁ t₂ t₃ a b c : List ℕ) → t₀ ≡ [] → t₁ ≡ t₀ ++ a → t₂ ≡ t₁ ++ b → t₃ ≡ t₂ ++ c → t₃ ≡ a ++ (b ++ c)
 assembled t₀ t₁ t₂ t₃ a b c e₀ e₁ e₂ e₃ = e₃ ∙ ap (λ t. t ++ c) (e₂ ∙ ap (λ t. t ++ b) (e₁ ∙ ap (λ t. t ++ a) e₀)) ∙ append_assoc a b c
 
--- the heading line by the three numbers
-pub heading_told : (m : Meaning) (c j w : ℕ) → c ≡ m.carriers → j ≡ m.jobs → w ≡ m.ceiling → heading_line (record { carriers = c; jobs = j; ceiling = w; rows = m.rows }) ≡ heading_line m
-heading_told m c j w e f g =
-    ap (λ n. heading_line (record { carriers = n; jobs = j; ceiling = w; rows = m.rows })) e
-    ∙ ap (λ n. heading_line (record { carriers = m.carriers; jobs = n; ceiling = w; rows = m.rows })) f
-    ∙ ap (λ n. heading_line (record { carriers = m.carriers; jobs = m.jobs; ceiling = n; rows = m.rows })) g
-
--- an entry that is there stands within its row
-pub entry_inside : (m : Meaning) (i k : ℕ) (e : ℕ × ℕ) → Some e ≡ entry_at m i k → k < length (row_of m i)
-entry_inside m i k e is =
-    ⊎_elim (λ inside. inside)
-    (λ past. absurd (let n : entry_at m i k ≡ None = entry_is m i k ∙ slice_get_past (row_of m i) k past in let z : ◌≡◌ {A = ℕ} 0 1 = cc in omega arith))
-    (cases_lt k (length (row_of m i)))
+-- a sheet has few carriers and jobs
+pub few_listed : (h : Heading) → (within_limits h || blank h) ≡ true → (h.carriers ≤ 128) × (h.jobs ≤ 256)
+few_listed h e = grind arith
 
 lines_push : (i : ℕ) (rows : List Row) (row : Row) → row_lines i (rows ++ row ∷ []) ≡ row_lines i rows ++ row_line (i + length rows) row
 lines_push i [] row =
@@ -54,12 +45,6 @@ module _ (rows : List Row) (i : ℕ) (inside : i < length rows) where
 
   pub count_more : entries_in (take i rows) + length (get_or rows i []) ≡ entries_in (take (i + 1) rows)
   count_more = sym (ap entries_in (take_more rows i [] inside) ∙ entries_push (take i rows) (get_or rows i []))
-
--- one entry more
-pub entries_more : (m : Meaning) (i k : ℕ) (e : ℕ × ℕ) → Some e ≡ entry_at m i k → flat_map entry_text (take k (row_of m i)) ++ entry_text e ≡ flat_map entry_text (take (k + 1) (row_of m i))
-entries_more m i k e is =
-    ap (λ x. flat_map entry_text (take k (row_of m i)) ++ entry_text x) (sym (entry_read m i k e is)) ∙ flat_map_more entry_text [] (take k (row_of m i)) (get_or (row_of m i) k (0, 0))
-    ∙ ap (flat_map entry_text) (sym (take_more (row_of m i) k (0, 0) (entry_inside m i k e is)))
 
 -- how many entries there may be
 few : (rows : List Row) → AllByRecursion (λ row. length row ≤ 256) rows → entries_in rows ≤ 256 * length rows
