@@ -1,0 +1,125 @@
+// Small sheets for the trials: random ones, and the best pairing of each by trying all.
+#![tactic(auto)]
+
+ghost use Rattle.std.specs.Prelude.{◌≡◌, ℕ, ◌≤◌, ◌*◌, slice_index};
+ghost use Rattle.grids.specs.Worths.{IsBest, RowWithin, Within, capped, pairing_worth, worth_at};
+
+use draws::Draw;
+
+// How many pairings there are, with those that give a carrier a job that it may not take: five choices for each of four carriers.
+const PAIRINGS: u32 = 625;
+
+// What each job is worth to each carrier, at most four of each; 0 where a carrier may not take a job.
+#[derive(Clone, Copy, PartialEq, Eq, Debug)]
+pub struct Grid {
+    pub carriers: usize,
+    pub jobs: usize,
+    pub ceiling: u64,
+    pub worths: [[u64; 4]; 4],
+}
+
+impl Grid {
+    // A random grid with some entries left out, and with a ceiling of at most this, or of 1.
+    pub fn draw(draw: &mut Draw, most: u64) -> Grid
+        ensures { Within most result }
+    {
+        let carriers = 1 + draw.below(4) as usize;
+        let jobs = 1 + draw.below(4) as usize;
+        let ceiling = 1 + draw.below(most);
+        let mut worths = [[0; 4]; 4];
+        for (carrier, row) in worths.iter_mut().enumerate() {
+            if carrier < carriers {
+                *row = draw_row(draw, jobs, ceiling);
+            }
+        }
+        Grid {
+            carriers,
+            jobs,
+            ceiling,
+            worths,
+        }
+    }
+
+    // What a job is worth to a carrier; 0 where there is no such carrier or job.
+    pub fn worth(&self, carrier: usize, job: usize) -> u64
+        ensures { result ≡ worth_at self.now.worths carrier job }
+    {
+        self.worths
+            .get(carrier)
+            .and_then(|row| row.get(job))
+            .copied()
+            .unwrap_or(0)
+    }
+
+    // The grid with the ceiling and all worths times a factor; what is too large for 64 bits becomes the largest number there.
+    pub fn times(&self, factor: u64) -> Grid
+        ensures carriers { result.carriers ≡ self.now.carriers }
+        ensures jobs { result.jobs ≡ self.now.jobs }
+        ensures ceiling { result.ceiling ≡ capped (self.now.ceiling * factor) }
+        ensures worths { (i j : ℕ) → worth_at result.worths i j ≡ capped (worth_at self.now.worths i j * factor) }
+    {
+        let mut worths = self.worths;
+        for row in worths.iter_mut() {
+            *row = times_row(*row, factor);
+        }
+        Grid {
+            ceiling: self.ceiling.saturating_mul(factor),
+            worths,
+            ..*self
+        }
+    }
+
+    // The most that any pairing is worth.
+    pub fn best(&self) -> u64
+        ensures { IsBest self.now.worths result }
+    {
+        let mut most = 0;
+        for number in 0..PAIRINGS {
+            most = most.max(pairing_worth(&self.worths, number, [false; 4]).unwrap_or(0));
+        }
+        most
+    }
+}
+
+// A random row: a worth for each job, or 0 for some.
+fn draw_row(draw: &mut Draw, jobs: usize, ceiling: u64) -> [u64; 4]
+    requires { 1 ≤ ceiling }
+    ensures { RowWithin jobs ceiling result }
+{
+    let mut row = [0; 4];
+    for (job, worth) in row.iter_mut().enumerate() {
+        if job < jobs && draw.below(5) > 0 {
+            *worth = draw.below(ceiling).saturating_add(1);
+        }
+    }
+    row
+}
+
+// A row whose worths are multiplied.
+fn times_row(mut row: [u64; 4], factor: u64) -> [u64; 4]
+    ensures { (j : ℕ) → slice_index result j ≡ capped (slice_index row j * factor) }
+{
+    for worth in row.iter_mut() {
+        *worth = worth.saturating_mul(factor);
+    }
+    row
+}
+
+// What a pairing of these carriers is worth, if it gives each of them a job that it may take and that no other has. Its number in base
+// five gives each carrier a job, or none at 4.
+fn pairing_worth(rows: &[[u64; 4]], number: u32, mut taken: [bool; 4]) -> Option<u64>
+    ensures { result ≡ pairing_worth rows.now number taken }
+{
+    let Some((row, others)) = rows.split_first() else {
+        return Some(0);
+    };
+    let job = (number % 5) as usize;
+    if job == 4 {
+        return pairing_worth(others, number / 5, taken);
+    }
+    if row[job] == 0 || taken[job] {
+        return None;
+    }
+    taken[job] = true;
+    Some(pairing_worth(others, number / 5, taken)?.saturating_add(row[job]))
+}
