@@ -2,6 +2,8 @@
 // again and compared, and the three states are compared with the load of a whole file. Prints what became of them.
 #![tactic(auto)]
 
+use draws::Draw;
+use grids::groups::push_number;
 use refusals::{Fault, Refusal};
 use sheetfile::loader::Bare;
 use sheetfile::rewriting::rewrite;
@@ -9,74 +11,40 @@ use sheetfile::whole::load;
 use sources::form::{Entry, Heading};
 use sources::sheet::Sheet;
 use std::alloc::{AllocError, Global};
+use std::collections::BTreeMap;
 use std::fmt;
 
-// Numbers that look random, the same ones for each seed.
-#[derive(Drop)]
-struct Random {
-    state: u64,
-}
-
-impl Random {
-    fn new(seed: u64) -> Random {
-        Random {
-            state: seed ^ 0x9e37_79b9_7f4a_7c15,
-        }
-    }
-
-    fn next(&mut self) -> u64 {
-        self.state ^= self.state << 13;
-        self.state ^= self.state >> 7;
-        self.state ^= self.state << 17;
-        self.state
-    }
-
-    // A number below n; 0 if n is 0.
-    fn below(&mut self, n: u64) -> u64 {
-        let x = self.next();
-        if n == 0 { 0 } else { x % n }
-    }
-}
-
-// Appends a number in groups of seven bits.
-fn push_number(bytes: &mut Vec<u8>, n: u64) -> Result<(), AllocError> {
-    let mut rest = n;
-    while rest >= 128 {
-        bytes.push((128 + rest % 128) as u8)?;
-        rest /= 128;
-    }
-    bytes.push(rest as u8)?;
-    Ok(())
-}
+// Small seeds are spread over all bits.
+const SPREAD: u64 = 0x9e37_79b9_7f4a_7c15;
 
 // Appends a row of so many entries.
 fn push_row(
     bytes: &mut Vec<u8>,
-    random: &mut Random,
+    draw: &mut Draw,
     count: u64,
     step: u64,
     ceiling: u64,
 ) -> Result<(), AllocError> {
     push_number(bytes, count)?;
-    let mut job = random.below(step);
-    for _i in 0..count {
+    let mut job = draw.below(step);
+    for _ in 0..count {
         push_number(bytes, job)?;
-        push_number(bytes, random.below(ceiling).saturating_add(1))?;
-        job = job.saturating_add(random.below(step).saturating_add(1));
+        push_number(bytes, draw.below(ceiling).saturating_add(1))?;
+        job = job.saturating_add(draw.below(step).saturating_add(1));
     }
     Ok(())
 }
 
 // A sheet of up to 4 carriers with up to 4 entries each, small numbers and large ones.
-fn sheet_file(heap: Global, random: &mut Random) -> Result<Vec<u8>, AllocError> {
+fn sheet_file(heap: Global, draw: &mut Draw) -> Result<Vec<u8>, AllocError> {
     let mut bytes = Vec::new(heap);
-    let carriers = random.below(4).saturating_add(1);
-    let (jobs, step) = if random.below(2) == 0 {
+    let carriers = draw.below(4).saturating_add(1);
+    let (jobs, step) = if draw.below(2) == 0 {
         (16, 4)
     } else {
         (256, 60)
     };
-    let ceiling = match random.below(3) {
+    let ceiling = match draw.below(3) {
         0 => 9,
         1 => 300,
         _ => 1 << 36,
@@ -85,9 +53,9 @@ fn sheet_file(heap: Global, random: &mut Random) -> Result<Vec<u8>, AllocError> 
     push_number(&mut bytes, jobs)?;
     push_number(&mut bytes, ceiling)?;
     let mut total = 0u64;
-    for _i in 0..carriers {
-        let count = random.below(5);
-        push_row(&mut bytes, random, count, step, ceiling)?;
+    for _ in 0..carriers {
+        let count = draw.below(5);
+        push_row(&mut bytes, draw, count, step, ceiling)?;
         total = total.saturating_add(count);
     }
     push_number(&mut bytes, total)?;
@@ -95,34 +63,34 @@ fn sheet_file(heap: Global, random: &mut Random) -> Result<Vec<u8>, AllocError> 
 }
 
 // Up to 24 bytes, most of them small.
-fn random_file(heap: Global, random: &mut Random) -> Result<Vec<u8>, AllocError> {
+fn random_file(heap: Global, draw: &mut Draw) -> Result<Vec<u8>, AllocError> {
     let mut bytes = Vec::new(heap);
-    let len = random.below(25);
-    for _i in 0..len {
-        let most = match random.below(8) {
+    let len = draw.below(25);
+    for _ in 0..len {
+        let most = match draw.below(8) {
             0 => 256,
             1 => 20,
             _ => 3,
         };
-        bytes.push((random.below(most) & 255) as u8)?;
+        bytes.push((draw.below(most) & 255) as u8)?;
     }
     Ok(bytes)
 }
 
-// What became of files.
-#[derive(Clone, Copy)]
+// What became of files. Refusals are counted by their numbers, which are printed, in their order.
+#[derive(Drop)]
 struct Tally {
     same: u64,
     wrong: u64,
-    refused: [u64; 13],
+    refused: BTreeMap<u8, u64>,
 }
 
 impl Tally {
-    fn new() -> Tally {
+    fn new(heap: Global) -> Tally {
         Tally {
             same: 0,
             wrong: 0,
-            refused: [0; 13],
+            refused: BTreeMap::new(heap),
         }
     }
 
@@ -135,14 +103,16 @@ impl Tally {
         }
     }
 
-    // A file was refused with a number; both ways to load it should agree.
-    fn refuse(&mut self, number: u8, agreed: bool) {
-        let n = usize::from(number);
-        if agreed && n < 13 {
-            self.refused[n] = self.refused[n].saturating_add(1);
+    // A file was refused; both ways to load it should agree, and no load is refused for what only a hall refuses.
+    fn refuse(&mut self, refusal: Refusal, agreed: bool) -> Result<(), AllocError> {
+        let number = refusal.number();
+        if agreed && number <= Refusal::TooShort.number() {
+            let count = self.refused.entry(number)?.or_insert(0);
+            *count = count.saturating_add(1);
         } else {
             self.wrong = self.wrong.saturating_add(1);
         }
+        Ok(())
     }
 }
 
@@ -154,11 +124,8 @@ impl fmt::Display for Tally {
             f,
             "{same} accepted and the same when written again, {wrong} wrong"
         )?;
-        let refused = self.refused;
-        for (number, count) in refused.iter().enumerate() {
-            if *count > 0 {
-                write!(f, ", {count} refused with {number}")?;
-            }
+        for (number, count) in &self.refused {
+            write!(f, ", {count} refused with {number}")?;
         }
         Ok(())
     }
@@ -170,14 +137,13 @@ fn filled<'a>(
     starts: &'a [usize],
     entries: &'a [Entry],
 ) -> Result<Heading, Fault> {
-    let Some(front) = starts.get(0..heading.carriers.saturating_add(1)) else {
-        return Err(Fault::bare(Refusal::TooShort));
-    };
-    let mut sheet = Sheet::new();
-    match sheet.fill(heading, front, entries) {
-        Ok(()) => Ok(heading),
-        Err(refusal) => Err(Fault::bare(refusal)),
-    }
+    let front = starts
+        .get(0..heading.carriers.saturating_add(1))
+        .ok_or(Fault::bare(Refusal::TooShort))?;
+    Sheet::new()
+        .fill(heading, front, entries)
+        .map_err(Fault::bare)?;
+    Ok(heading)
 }
 
 // Loads a file state by state, and fills a sheet from it.
@@ -186,25 +152,18 @@ fn load_by_states(
     starts: &mut [usize],
     entries: &mut [Entry],
 ) -> Result<Heading, Fault> {
-    let mut loader = match Bare::new(bytes).read_heading(starts) {
-        Ok(headed) => headed,
-        Err(back) => return Err(back.fault),
-    };
-    for _i in 0..129u8 {
+    let mut loader = Bare::new(bytes)
+        .read_heading(starts)
+        .map_err(|back| back.fault)?;
+    for _ in 0..129u8 {
         match loader.read_row(starts, entries) {
             Ok(()) => {}
-            Err(fault) => {
-                if fault.refusal.number() == 7 {
-                    break;
-                }
-                return Err(fault);
-            }
+            Err(fault) if fault.refusal == Refusal::NoRowLeft => break,
+            Err(fault) => return Err(fault),
         }
     }
-    match loader.close() {
-        Ok(closed) => filled(closed.heading(), starts, entries),
-        Err(back) => Err(back.fault),
-    }
+    let closed = loader.close().map_err(|back| back.fault)?;
+    filled(closed.heading(), starts, entries)
 }
 
 // Whether a file comes to the same as a whole and state by state: the same heading and tables, or the same refusal at
@@ -216,75 +175,75 @@ fn agrees(bytes: &[u8]) -> bool {
     let mut entries_by_states = entries;
     let whole = load(bytes, &mut starts, &mut entries);
     let by_states = load_by_states(bytes, &mut starts_by_states, &mut entries_by_states);
-    match (whole, by_states) {
-        (Ok(a), Ok(b)) => a == b && starts == starts_by_states && entries == entries_by_states,
-        (Err(a), Err(b)) => a == b,
-        _ => false,
-    }
+    whole == by_states
+        && (whole.is_err() || (starts == starts_by_states && entries == entries_by_states))
 }
 
 // Loads a file and writes it again, and counts what became of it.
-fn examine(bytes: &[u8], tally: &mut Tally) {
+fn examine(bytes: &[u8], tally: &mut Tally) -> Result<(), AllocError> {
     let mut starts = [7usize; 6];
     let mut entries = [Entry { job: 9, worth: 9 }; 20];
     let mut out = [255u8; 160];
     match rewrite(bytes, &mut starts, &mut entries, &mut out) {
-        Ok(len) => tally.accept(out.get(0..len) == Some(bytes) && agrees(bytes)),
-        Err(fault) => tally.refuse(fault.refusal.number(), agrees(bytes)),
+        Ok(len) => {
+            tally.accept(out.get(0..len) == Some(bytes) && agrees(bytes));
+            Ok(())
+        }
+        Err(fault) => tally.refuse(fault.refusal, agrees(bytes)),
     }
 }
 
 // Examines a file with each other byte at one place.
-fn change_at(bytes: &mut [u8], at: usize, tally: &mut Tally) {
-    if at >= bytes.len() {
-        return;
-    }
-    let kept = bytes[at];
-    for other in 0..=255u8 {
-        if other != kept {
-            bytes[at] = other;
-            examine(bytes, tally);
-        }
+fn change_at(bytes: &mut [u8], at: usize, tally: &mut Tally) -> Result<(), AllocError> {
+    let Some(kept) = bytes.get(at).copied() else {
+        return Ok(());
+    };
+    for other in (0..=255u8).filter(|other| *other != kept) {
+        bytes[at] = other;
+        examine(bytes, tally)?;
     }
     bytes[at] = kept;
+    Ok(())
 }
 
 // Examines a file with each single byte changed in every way.
-fn change_each(bytes: &mut [u8], tally: &mut Tally) {
+fn change_each(bytes: &mut [u8], tally: &mut Tally) -> Result<(), AllocError> {
     for at in 0..bytes.len() {
-        change_at(bytes, at, tally);
+        change_at(bytes, at, tally)?;
     }
+    Ok(())
 }
 
 // Examines each part of a file from its start, but the whole.
-fn cut_each(bytes: &[u8], tally: &mut Tally) {
+fn cut_each(bytes: &[u8], tally: &mut Tally) -> Result<(), AllocError> {
     for end in 0..bytes.len() {
-        examine(&bytes[0..end], tally);
+        examine(&bytes[..end], tally)?;
     }
+    Ok(())
 }
 
 // Examines some sheets, whole and damaged.
 fn try_sheets(heap: Global, count: u32) -> Result<[Tally; 3], AllocError> {
-    let mut random = Random::new(1);
-    let mut sheets = Tally::new();
-    let mut changes = Tally::new();
-    let mut cuts = Tally::new();
-    for _i in 0..count {
-        let mut sheet = sheet_file(heap, &mut random)?;
-        examine(&sheet, &mut sheets);
-        change_each(&mut sheet, &mut changes);
-        cut_each(&sheet, &mut cuts);
+    let mut draw = Draw::new(1 ^ SPREAD);
+    let mut sheets = Tally::new(heap);
+    let mut changes = Tally::new(heap);
+    let mut cuts = Tally::new(heap);
+    for _ in 0..count {
+        let mut sheet = sheet_file(heap, &mut draw)?;
+        examine(&sheet, &mut sheets)?;
+        change_each(&mut sheet, &mut changes)?;
+        cut_each(&sheet, &mut cuts)?;
     }
     Ok([sheets, changes, cuts])
 }
 
 // Examines some random files.
 fn try_random(heap: Global, count: u32) -> Result<Tally, AllocError> {
-    let mut random = Random::new(2);
-    let mut tally = Tally::new();
-    for _i in 0..count {
-        let file = random_file(heap, &mut random)?;
-        examine(&file, &mut tally);
+    let mut draw = Draw::new(2 ^ SPREAD);
+    let mut tally = Tally::new(heap);
+    for _ in 0..count {
+        let file = random_file(heap, &mut draw)?;
+        examine(&file, &mut tally)?;
     }
     Ok(tally)
 }

@@ -1,7 +1,9 @@
 // Small sheets for the trials: random ones, and the best pairing of each by trying all.
 #![tactic(auto)]
 
-ghost use Rattle.std.specs.Prelude.{◌≡◌, ℕ, ◌≤◌, ◌*◌, slice_index};
+pub mod groups;
+
+ghost use Rattle.std.specs.Prelude.{◌≡◌, ℕ, ◌≤◌, ◌*◌, if◌then◌else◌, false, slice_index, slice_index_or};
 ghost use Rattle.grids.specs.Worths.{IsBest, RowWithin, Within, capped, pairing_worth, worth_at};
 
 use draws::Draw;
@@ -53,8 +55,7 @@ impl Grid {
 
     // The grid with the ceiling and all worths times a factor; what is too large for 64 bits becomes the largest number there.
     pub fn times(&self, factor: u64) -> Grid
-        ensures carriers { result.carriers ≡ self.now.carriers }
-        ensures jobs { result.jobs ≡ self.now.jobs }
+        ensures counts { (result.carriers ≡ self.now.carriers) × (result.jobs ≡ self.now.jobs) }
         ensures ceiling { result.ceiling ≡ capped (self.now.ceiling * factor) }
         ensures worths { (i j : ℕ) → worth_at result.worths i j ≡ capped (worth_at self.now.worths i j * factor) }
     {
@@ -67,6 +68,21 @@ impl Grid {
             worths,
             ..*self
         }
+    }
+
+    // The grid in which only these carriers may take a job.
+    pub fn only(&self, carriers: &[bool; 4]) -> Grid
+        ensures counts { (result.carriers ≡ self.now.carriers) × (result.jobs ≡ self.now.jobs) }
+        ensures ceiling { result.ceiling ≡ self.now.ceiling }
+        ensures worths { (i j : ℕ) → worth_at result.worths i j ≡ (if slice_index_or carriers.now i false then worth_at self.now.worths i j else 0) }
+    {
+        let mut worths = self.worths;
+        for (carrier, row) in worths.iter_mut().enumerate() {
+            if !carriers[carrier] {
+                *row = [0; 4];
+            }
+        }
+        Grid { worths, ..*self }
     }
 
     // The most that any pairing is worth.
