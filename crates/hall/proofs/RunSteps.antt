@@ -18,17 +18,18 @@ use Rattle.auction.specs.declared.standing.Standing.{Standing}
 use Rattle.auction.specs.declared.standing.Standing.TheVariants.{Waiting, Bidding, Served, Out}
 use Rattle.auction.specs.Tally.{Tally}
 use Rattle.auction.specs.Consistent.{Consistent}
-use Rattle.auction.specs.Rules.{between, once, called, settled, settle_answer}
+use Rattle.auction.specs.Rules.{between, once, called, settled, settle_answer, settle_tally}
 use Rattle.auction.specs.Runs.{RunState, in_flight, looks_for, gathered, if_waiting, if_bidding, beginning, waits_after, joins_line, first_acts, step_by, one_step, many_steps, ending_of, since, report_of, run_report, Reports, run_answer, ran, run_tally}
 use Rattle.auction.specs.InOrder.{Ordered, Grown}
 use Rattle.sources.proofs.Reading.{row_known, row_rising}
 use Rattle.auction.proofs.Queues.{gathered_more, gathered_short}
 use Rattle.auction.proofs.Steps.{room_enough, ending_is, begins_ordered, step_ordered, steps_grow, idle_steps, run_reports}
+use Rattle.rings.specs.Held.{held}
 use Rattle.hall.specs.declared.books.Books.{Books}
+use Rattle.hall.specs.declared.books.queues.Queues.{Queues}
 use Rattle.hall.specs.InBooks.{is_open, tally_in, tally_of}
 use Rattle.hall.specs.Ruled.{Ruled}
-use Rattle.hall.specs.RunSteps.{state_in, Became}
-use Rattle.hall.proofs.Keeps.{kept_out}
+use Rattle.hall.specs.RunSteps.{state_of, Became}
 use Rattle.hall.proofs.Tables.{open_tally, shut_tally, open_parts, consistent_in, renumbered}
 
 -- ---- a row has no more entries than there are jobs
@@ -62,73 +63,84 @@ consistent_for m b o = let p = open_parts m b o in renumbered _ _ _ _ _ _ (tally
 same_state : (r q : RunState) → r.line ≡ q.line → r.flight ≡ q.flight → r.tally ≡ q.tally → r.steps ≡ q.steps → r ≡ q
 same_state r q a b c d = λ i. record { line = a i; flight = b i; tally = c i; steps = d i }
 
-pub first_looked : (m : Meaning) (old new : Books) (i n : ℕ) (line : List ℕ) (fs gs : List InFlight) → 0 < n → is_open m new ≡ true → tally_in new ≡ called m i Look (tally_in old) →
-    gs ≡ fs ++ in_flight i (n - 1) ∷ [] → Became m (λ k. first_acts m i n line fs (tally_in old) k) new line gs
-first_looked m old new i zero line fs gs l o t e = absurd (omega arith)
-first_looked m old new i (suc n) line fs gs l o t e = record {
-  ready = o;
-  made = λ k. same_state (state_in new line gs (k + 1)) (first_acts m i (suc n) line fs (tally_in old) k) refl
-      (e ∙ ap (λ z. fs ++ in_flight i z ∷ []) (omega arith)) t refl;
-}
+-- The books and queues after a call and a step.
+module _ (m : Meaning) (old new : Books) (q q' : Queues) (was : is_open m old ≡ true) where
+  pub first_summoned : (i n : ℕ) → tally_of m new ≡ once (called m i Summon) (tally_of m old) → n ≡ looks_for old.lanes (length (row_of m i)) → held q'.line ≡ held q.line →
+      held q'.flight ≡ held q.flight ++ in_flight i n ∷ [] → Became m (λ k. step_by m true (i ∷ held q.line) (held q.flight) (tally_in old) k) new q'
+  first_summoned i n t l e f =
+      let a = after_call m old new (called m i Summon) was t in
+      record { ready = a.0; made = λ k. same_state (state_of new q' (k + 1)) _ e (f ∙ ap (λ z. held q.flight ++ in_flight i z ∷ []) l) a.1 refl }
 
-pub first_settled : (m : Meaning) (old new : Books) (i n : ℕ) (line line' : List ℕ) (fs : List InFlight) (r : Result Verdict Refusal) → n ≤ 0 → is_open m new ≡ true → tally_in new ≡ settled m i (tally_in old) →
-    is_open m old ≡ true → r ≡ settle_answer i m (tally_of m old) → line' ≡ line ++ joins_line i r → Became m (λ k. first_acts m i n line fs (tally_in old) k) new line' fs
-first_settled m old new i zero line line' fs r l o t w a e = record {
-  ready = o;
-  made = λ k. same_state (state_in new line' fs (k + 1)) (first_acts m i 0 line fs (tally_in old) k)
-      (e ∙ ap (λ q. line ++ joins_line i q) (a ∙ ap (settle_answer i m) (open_tally m old w))) refl t refl;
-}
-first_settled m old new i (suc n) line line' fs r l o t w a e = absurd (omega arith)
+  pub first_looked : (i n : ℕ) → 0 < n → tally_of m new ≡ once (called m i Look) (tally_of m old) → held q'.line ≡ held q.line →
+      held q'.flight ≡ held q.flight ++ in_flight i (n - 1) ∷ [] → Became m (λ k. first_acts m i n (held q.line) (held q.flight) (tally_in old) k) new q'
+  first_looked i zero l t e f = absurd (omega arith)
+  first_looked i (suc n) l t e f =
+      let a = after_call m old new (called m i Look) was t in record {
+        ready = a.0;
+        made = λ k. same_state (state_of new q' (k + 1)) (first_acts m i (suc n) (held q.line) (held q.flight) (tally_in old) k) e
+            (f ∙ ap (λ z. held q.flight ++ in_flight i z ∷ []) (omega arith)) a.1 refl;
+      }
+
+  pub first_settled : (i n : ℕ) (r : Result Verdict Refusal) → n ≤ 0 → tally_of m new ≡ settle_tally i m (tally_of m old) → r ≡ settle_answer i m (tally_of m old) →
+      held q'.line ≡ held q.line ++ joins_line i r → held q'.flight ≡ held q.flight → Became m (λ k. first_acts m i n (held q.line) (held q.flight) (tally_in old) k) new q'
+  first_settled i zero r l t w e f =
+      let a = after_call m old new (settled m i) was t in record {
+        ready = a.0;
+        made = λ k. same_state (state_of new q' (k + 1)) (first_acts m i 0 (held q.line) (held q.flight) (tally_in old) k)
+            (e ∙ ap (λ z. held q.line ++ joins_line i z) (w ∙ ap (settle_answer i m) (open_tally m old was))) f a.1 refl;
+      }
+  first_settled i (suc n) r l t w e f = absurd (omega arith)
 
 pub waits_told : (i : ℕ) (v : Verdict) (o : Option ℕ) (line line' : List ℕ) → o ≡ waits_after i v → line' ≡ line ++ option_to_list o → line' ≡ line ++ joins_line i (Ok v)
 waits_told i v o line line' e h = h ∙ ap (λ z. line ++ option_to_list z) e
 
-pub step_summons : (m : Meaning) (depth : ℕ) (old new : Books) (i : ℕ) (line line' : List ℕ) (fs gs : List InFlight) → line ≡ i ∷ line' →
-    (ltb (length fs) depth && ltb 0 (length line)) ≡ true → is_open m new ≡ true → tally_in new ≡ called m i Summon (tally_in old) →
-    gs ≡ fs ++ in_flight i (looks_for old.lanes (length (row_of m i))) ∷ [] → Became m (λ n. one_step m depth (state_in old line fs n)) new line' gs
-unfolding one_step
-step_summons m depth old new i line line' fs gs e test o t f = record {
-  ready = o;
-  made = λ n. same_state (state_in new line' gs (n + 1)) (step_by m true (i ∷ line') fs (tally_in old) n) refl f t refl
-      ∙ sym (ap (λ q. step_by m q line fs (tally_in old) n) (and_parts (ltb (length fs) depth) (ltb 0 (length line)) test).0 ∙ ap (λ q. step_by m true q fs (tally_in old) n) e);
-}
+-- A step takes the line's first or the flight's first. Between the two, q' are the queues without it.
+module _ (m : Meaning) (depth : ℕ) (old new : Books) (q q' q'' : Queues) where
+  pub step_summons : (i : ℕ) → true ≡ (ltb (length (held q.flight)) depth && ltb 0 (length (held q.line))) → held q.line ≡ i ∷ held q'.line → held q'.flight ≡ held q.flight →
+      Became m (λ n. step_by m true (i ∷ held q'.line) (held q'.flight) (tally_in old) n) new q'' → Became m (λ n. one_step m depth (state_of old q n)) new q''
+  unfolding one_step
+  step_summons i test e f b = record {
+    ready = b.ready;
+    made = λ n. b.made n ∙ ap (λ z. step_by m true (i ∷ held q'.line) z (tally_in old) n) f
+        ∙ sym (ap (λ z. step_by m z (held q.line) (held q.flight) (tally_in old) n) (and_parts (ltb (length (held q.flight)) depth) (ltb 0 (length (held q.line))) (sym test)).0
+        ∙ ap (λ z. step_by m true z (held q.flight) (tally_in old) n) e);
+  }
 
-pub step_first : (m : Meaning) (depth : ℕ) (old new : Books) (f : InFlight) (line line' : List ℕ) (fs fs' gs : List InFlight) → fs ≡ f ∷ fs' →
-    (ltb (length fs) depth && ltb 0 (length line)) ≡ false → Became m (λ n. first_acts m f.carrier f.looks_left line fs' (tally_in old) n) new line' gs →
-    Became m (λ n. one_step m depth (state_in old line fs n)) new line' gs
-unfolding one_step
-step_first m depth old new f line line' fs fs' gs e test b = record {
-  ready = b.ready;
-  made = λ n. b.made n ∙ sym (ap (λ q. step_by m (ltb (length q) depth) line q (tally_in old) n) e
-      ∙ acts line n (ltb (length (f ∷ fs')) depth) (ap (λ z. (ltb z depth && ltb 0 (length line))) (sym (ap length e)) ∙ test));
-}
-  where
-    acts : (l : List ℕ) (n : ℕ) (s : Bool) → (s && ltb 0 (length l)) ≡ false → step_by m s l (f ∷ fs') (tally_in old) n ≡ first_acts m f.carrier f.looks_left l fs' (tally_in old) n
-    acts [] n true h = refl
-    acts (i ∷ l) n true h = absurd (both_ways (ltb 0 (length (i ∷ l))) h (lt-ltb 0 (length (i ∷ l)) (omega arith)))
-    acts l n false h = refl
+  pub step_first : (f : InFlight) → false ≡ (ltb (length (held q.flight)) depth && ltb 0 (length (held q.line))) → held q.flight ≡ f ∷ held q'.flight → held q'.line ≡ held q.line →
+      Became m (λ n. first_acts m f.carrier f.looks_left (held q'.line) (held q'.flight) (tally_in old) n) new q'' → Became m (λ n. one_step m depth (state_of old q n)) new q''
+  unfolding one_step
+  step_first f test e l b = record {
+    ready = b.ready;
+    made = λ n. b.made n ∙ ap (λ z. first_acts m f.carrier f.looks_left z (held q'.flight) (tally_in old) n) l
+        ∙ sym (ap (λ z. step_by m (ltb (length z) depth) (held q.line) z (tally_in old) n) e
+        ∙ acts (held q.line) n (ltb (length (f ∷ held q'.flight)) depth) (ap (λ z. (ltb z depth && ltb 0 (length (held q.line)))) (sym (ap length e)) ∙ sym test));
+  }
+    where
+      acts : (l : List ℕ) (n : ℕ) (s : Bool) → (s && ltb 0 (length l)) ≡ false →
+          step_by m s l (f ∷ held q'.flight) (tally_in old) n ≡ first_acts m f.carrier f.looks_left l (held q'.flight) (tally_in old) n
+      acts [] n true h = refl
+      acts (i ∷ l) n true h = absurd (both_ways (ltb 0 (length (i ∷ l))) h (lt-ltb 0 (length (i ∷ l)) (omega arith)))
+      acts l n false h = refl
 
 -- Line and flight fit their places.
-pub few_held : (m : Meaning) (b : Books) (line : List ℕ) (fs : List InFlight) → Ordered m (state_in b line fs 0) → length line + length fs ≤ 128
-few_held m b line fs r = omega (arith, room_enough m (state_in b line fs 0) r, (consistent_in b).standings_sized, (consistent_in b).limits.few_carriers)
+pub few_held : (m : Meaning) (b : Books) (q : Queues) → Ordered m (state_of b q 0) → length (held q.line) + length (held q.flight) ≤ 128
+few_held m b q r = omega (arith, room_enough m (state_of b q 0) r, (consistent_in b).standings_sized, (consistent_in b).limits.few_carriers)
 
 -- ---- gathering who waits and who bids
 
-module _ {X : Type 0} (f : ℕ → Standing → List X) (b : Books) where
-  long_enough : b.carriers ≤ length b.standings
-  long_enough = omega (arith, (consistent_in b).limits.few_carriers, (kept_out b.kept).standings_long)
+pub few_standings : (b : Books) → length (take b.carriers b.standings) ≤ 128
+few_standings b = omega (arith, (consistent_in b).standings_sized, (consistent_in b).limits.few_carriers)
 
-  pub gathered_few : ((i : ℕ) (s : Standing) → length (f i s) ≤ 1) → (i : ℕ) → i < b.carriers → length (gathered f 0 (take i b.standings)) < 128
-  gathered_few few i l =
-      omega (arith, gathered_short f few 0 (take i b.standings), length-take-le i b.standings (omega (arith, l, long_enough)), (consistent_in b).limits.few_carriers)
+module _ {X : Type 0} (f : ℕ → Standing → List X) (ss : List Standing) (i : ℕ) (l : i < length ss) where
+  pub gathered_few : ((i : ℕ) (s : Standing) → length (f i s) ≤ 1) → length ss ≤ 128 → length (gathered f 0 (take i ss)) < 128
+  gathered_few few n = omega (arith, gathered_short f few 0 (take i ss), length-take-le i ss (omega arith))
 
-  pub gathered_on : (i : ℕ) (s : Standing) (xs ys : List X) → i < b.carriers → get_or b.standings i Waiting ≡ s → xs ≡ gathered f 0 (take i b.standings) →
-      ys ≡ xs ++ f i s → ys ≡ gathered f 0 (take (i + 1) b.standings)
-  gathered_on i s xs ys l e before after =
+  pub gathered_on : (s : Standing) (xs ys : List X) → get_or ss i Waiting ≡ s → xs ≡ gathered f 0 (take i ss) → ys ≡ xs ++ f i s → ys ≡ gathered f 0 (take (i + 1) ss)
+  gathered_on s xs ys e before after =
       after ∙ ap (λ z. z ++ f i s) before
-      ∙ sym (ap (gathered f 0) (take_more b.standings i Waiting (omega (arith, l, long_enough))) ∙ gathered_more f 0 (take i b.standings) (get_or b.standings i Waiting)
-      ∙ ap (λ n. gathered f 0 (take i b.standings) ++ f n (get_or b.standings i Waiting)) (omega (arith, length-take-le i b.standings (omega (arith, l, long_enough))))
-      ∙ ap (λ z. gathered f 0 (take i b.standings) ++ f i z) e)
+      ∙ sym (ap (gathered f 0) (take_more ss i Waiting l) ∙ gathered_more f 0 (take i ss) (get_or ss i Waiting)
+      ∙ ap (λ n. gathered f 0 (take i ss) ++ f n (get_or ss i Waiting)) (omega (arith, length-take-le i ss (omega arith)))
+      ∙ ap (λ z. gathered f 0 (take i ss) ++ f i z) e)
 
 pub one_waits : (i : ℕ) (s : Standing) → length (if_waiting i s) ≤ 1
 one_waits i Waiting = omega arith
@@ -144,16 +156,16 @@ one-bids m lanes i Out = omega arith
 
 -- ---- many steps
 
-module _ (m : Meaning) (depth : ℕ) (old new : Books) (line line' : List ℕ) (fs gs : List InFlight) (b : Became m (λ n. one_step m depth (state_in old line fs n)) new line' gs) where
-  pub steps_on : (budget k steps : ℕ) (last : RunState) → k < budget → many_steps m depth (budget - k) (state_in old line fs steps) ≡ last →
-      many_steps m depth (budget - (k + 1)) (state_in new line' gs (steps + 1)) ≡ last
+module _ (m : Meaning) (depth : ℕ) (old new : Books) (q q' : Queues) (b : Became m (λ n. one_step m depth (state_of old q n)) new q') where
+  pub steps_on : (budget k : ℕ) (last : RunState) → k < budget → many_steps m depth (budget - k) (state_of old q k) ≡ last →
+      many_steps m depth (budget - (k + 1)) (state_of new q' (k + 1)) ≡ last
   unfolding many_steps
-  steps_on budget k steps last l h =
+  steps_on budget k last l h =
       let n : suc (budget - (k + 1)) ≡ budget - k = omega arith in
-      ap (many_steps m depth (budget - (k + 1))) (b.made steps) ∙ ap (λ z. many_steps m depth z (state_in old line fs steps)) n ∙ h
+      ap (many_steps m depth (budget - (k + 1))) (b.made k) ∙ ap (λ z. many_steps m depth z (state_of old q k)) n ∙ h
 
-  pub ordered_on : is_open m old ≡ true → Ordered m (state_in old line fs 0) → Ordered m (state_in new line' gs 0)
-  ordered_on o r = subst (Ordered m) (sym (b.made 0)) (step_ordered m depth (state_in old line fs 0) (consistent_for m old o) r)
+  pub ordered_on : is_open m old ≡ true → Ordered m (state_of old q 0) → Ordered m (state_of new q' 0)
+  ordered_on o r = subst (Ordered m) (sym (b.made 0)) (step_ordered m depth (state_of old q 0) (consistent_for m old o) r)
 
 pub no_steps : (m : Meaning) (depth n : ℕ) (r : RunState) → n ≡ 0 → many_steps m depth n r ≡ r
 unfolding many_steps
@@ -164,38 +176,39 @@ both_none zero zero = refl
 both_none zero (suc b) = ap (λ n. eqb n 0) (omega arith)
 both_none (suc a) b = and_left (eqb (suc a) 0) (eqb b 0) (ne_eqb (suc a) 0 (λ e. omega (arith, e))) ∙ sym (ne_eqb (suc a + b) 0 (λ e. omega (arith, e)))
 
-pub idle_state : (m : Meaning) (depth n steps : ℕ) (b : Books) (line : List ℕ) (fs : List InFlight) → (eqb (length line) 0 && eqb (length fs) 0) ≡ true →
-    many_steps m depth n (state_in b line fs steps) ≡ state_in b line fs steps
-idle_state m depth n steps b line fs e =
-    idle_steps m depth n line fs (tally_in b) steps (let z = eqb-true (length line + length fs) 0 (sym (both_none (length line) (length fs)) ∙ e) in omega (arith, z))
+pub idle_state : (m : Meaning) (depth n steps : ℕ) (b : Books) (q : Queues) → (eqb (length (held q.line)) 0 && eqb (length (held q.flight)) 0) ≡ true →
+    many_steps m depth n (state_of b q steps) ≡ state_of b q steps
+idle_state m depth n steps b q e =
+    idle_steps m depth n (held q.line) (held q.flight) (tally_in b) steps
+    (let z = eqb-true (length (held q.line) + length (held q.flight)) 0 (sym (both_none (length (held q.line)) (length (held q.flight))) ∙ e) in omega (arith, z))
 
 pub still_busy : (a b : ℕ) → (eqb a 0 && eqb b 0) ≡ false → 0 < a + b
 still_busy a b e = let z : a + b ≡ 0 → ⊥ = eqb-false (a + b) 0 (sym (both_none a b) ∙ e) in omega arith
 
 -- ---- the state that a run begins with
 
-pub same_start : (m : Meaning) (b : Books) (line : List ℕ) (fs : List InFlight) → line ≡ gathered if_waiting 0 (tally_in b).standings → fs ≡ gathered (if_bidding m b.lanes) 0 (tally_in b).standings →
-    state_in b line fs 0 ≡ beginning m (tally_in b)
+pub same_start : (m : Meaning) (b : Books) (q : Queues) → held q.line ≡ gathered if_waiting 0 (tally_in b).standings → held q.flight ≡ gathered (if_bidding m b.lanes) 0 (tally_in b).standings →
+    state_of b q 0 ≡ beginning m (tally_in b)
 unfolding beginning
-same_start m b line fs e f = same_state (state_in b line fs 0) _ e f refl refl
+same_start m b q e f = same_state (state_of b q 0) _ e f refl refl
 
-pub start_ordered : (m : Meaning) (b : Books) (line : List ℕ) (fs : List InFlight) → state_in b line fs 0 ≡ beginning m (tally_in b) → Ordered m (state_in b line fs 0)
-start_ordered m b line fs e = subst (Ordered m) (sym e) (begins_ordered m (tally_in b) (consistent_in b).limits.some_lanes)
+pub start_ordered : (m : Meaning) (b : Books) (q : Queues) → state_of b q 0 ≡ beginning m (tally_in b) → Ordered m (state_of b q 0)
+start_ordered m b q e = subst (Ordered m) (sym e) (begins_ordered m (tally_in b) (consistent_in b).limits.some_lanes)
 
-ending_told : (m : Meaning) (b : Books) (line : List ℕ) (fs : List InFlight) → Ordered m (state_in b line fs 0) → (e : Ending) →
-    e ≡ cond (eqb (length line) 0 && eqb (length fs) 0) Done Spent → e ≡ ending_of (tally_in b)
-ending_told m b line fs r e is-end = is-end ∙ ap (λ z. cond z Done Spent) (both_none (length line) (length fs)) ∙ sym (ending_is m (state_in b line fs 0) r)
+ending_told : (m : Meaning) (b : Books) (q : Queues) → Ordered m (state_of b q 0) → (e : Ending) →
+    e ≡ cond (eqb (length (held q.line)) 0 && eqb (length (held q.flight)) 0) Done Spent → e ≡ ending_of (tally_in b)
+ending_told m b q r e is-end = is-end ∙ ap (λ z. cond z Done Spent) (both_none (length (held q.line)) (length (held q.flight))) ∙ sym (ending_is m (state_of b q 0) r)
 
 -- ---- the run
 
-module _ (m : Meaning) (sound : Sound m) (depth budget : ℕ) (old new : Books) (line : List ℕ) (fs : List InFlight) (steps : ℕ) (in' : between 1 128 depth ≡ true) (was : is_open m old ≡ true) (is : is_open m new ≡ true)
-    (made : state_in new line fs steps ≡ many_steps m depth budget (beginning m (tally_in old))) (order : Ordered m (state_in new line fs 0))
-    (e : Ending) (is-end : e ≡ cond (eqb (length line) 0 && eqb (length fs) 0) Done Spent) (counts : Counts) (made-counts : counts ≡ since old.counts new.counts) where
+module _ (m : Meaning) (sound : Sound m) (depth budget : ℕ) (old new : Books) (q : Queues) (steps : ℕ) (in' : between 1 128 depth ≡ true) (was : is_open m old ≡ true) (is : is_open m new ≡ true)
+    (made : state_of new q steps ≡ many_steps m depth budget (beginning m (tally_in old))) (order : Ordered m (state_of new q 0))
+    (e : Ending) (is-end : e ≡ cond (eqb (length (held q.line)) 0 && eqb (length (held q.flight)) 0) Done Spent) (counts : Counts) (made-counts : counts ≡ since old.counts new.counts) where
   abbrev report : Report
   report = record { steps = steps; counts = counts; ending = e }
 
   report_is : report ≡ run_report (tally_in old) (many_steps m depth budget (beginning m (tally_in old)))
-  report_is = ap (λ z. record { steps = steps; counts = z; ending = e }) made-counts ∙ ap (report_of old.counts new.counts steps) (ending_told m new line fs order e is-end) ∙ ap (run_report (tally_in old)) made
+  report_is = ap (λ z. record { steps = steps; counts = z; ending = e }) made-counts ∙ ap (report_of old.counts new.counts steps) (ending_told m new q order e is-end) ∙ ap (run_report (tally_in old)) made
 
   pub run_ruled : Ruled (run_answer depth budget) (run_tally depth budget) m old new (Ok report)
   unfolding ran
@@ -210,14 +223,14 @@ module _ (m : Meaning) (sound : Sound m) (depth budget : ℕ) (old new : Books) 
   unfolding beginning
   run_reported deep =
       subst (Reports budget (tally_in old) (tally_in new)) (sym report_is)
-      (subst (λ q. Reports budget (tally_in old) q.tally (run_report (tally_in old) (many_steps m depth budget (beginning m (tally_in old))))) (sym made)
+      (subst (λ z. Reports budget (tally_in old) z.tally (run_report (tally_in old) (many_steps m depth budget (beginning m (tally_in old))))) (sym made)
       (run_reports m sound depth deep budget (beginning m (tally_in old)) refl (consistent_for m old was) (begins_ordered m (tally_in old) (consistent_in old).limits.some_lanes)))
 
 -- No count has fallen.
-pub run_grown : (m : Meaning) (depth budget : ℕ) (old new : Books) (line line' : List ℕ) (fs gs : List InFlight) (steps : ℕ) →
-    state_in new line' gs steps ≡ many_steps m depth budget (state_in old line fs 0) → Grown old.counts new.counts
-run_grown m depth budget old new line line' fs gs steps made =
-    subst (λ q. Grown old.counts q.tally.counts) (sym made) (steps_grow m depth budget (state_in old line fs 0))
+pub run_grown : (m : Meaning) (depth budget : ℕ) (old new : Books) (q q' : Queues) (steps : ℕ) →
+    state_of new q' steps ≡ many_steps m depth budget (state_of old q 0) → Grown old.counts new.counts
+run_grown m depth budget old new q q' steps made =
+    subst (λ z. Grown old.counts z.tally.counts) (sym made) (steps_grow m depth budget (state_of old q 0))
 
 module _ (m : Meaning) (depth budget : ℕ) (b : Books) where
   pub run_unopened : is_open m b ≡ false → Ruled (run_answer depth budget) (run_tally depth budget) m b b (Err NeverStarted)

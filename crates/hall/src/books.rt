@@ -5,6 +5,7 @@ use auction::standing::{Counts, Standing};
 
 mod calls;
 mod questions;
+mod queues;
 mod runs;
 
 #[derive(Drop)]

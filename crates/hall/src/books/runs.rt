@@ -1,20 +1,18 @@
 // Run, on books and the source that they are kept for.
-ghost use Rattle.std.specs.Prelude.{◌≡◌, ◌+◌, ◌<◌, ◌≤◌, true, ◌&&◌, [], ◌∷◌, ◌++◌, length, IfOk, if◌then◌else◌, ◌==◌, nat_eq, nat_lt};
-ghost use Rattle.sources.specs.Meaning.{row_of};
-ghost use Rattle.rings.specs.Held.{held, room};
-ghost use Rattle.auction.specs.declared.standing.Act.TheVariants.{Summon};
-ghost use Rattle.auction.specs.Rules.{called};
-ghost use Rattle.auction.specs.Runs.{in_flight, looks_for, gathered, if_waiting, if_bidding, since, waits_after, first_acts, one_step, many_steps, Reports, run_answer, run_tally};
+ghost use Rattle.std.specs.Prelude.{◌≡◌, ◌+◌, ◌<◌, ◌≤◌, true, [], ◌∷◌, length, IfOk};
+ghost use Rattle.rings.specs.Held.{held};
+ghost use Rattle.auction.specs.Runs.{looks_for, since, beginning, waits_after, first_acts, step_by, one_step, many_steps, Reports, run_answer, run_tally};
 ghost use Rattle.auction.specs.InOrder.{Ordered, Grown};
 ghost use Rattle.hall.specs.InBooks.{is_open, tally_in};
 ghost use Rattle.hall.specs.Ruled.{Ruled};
-ghost use Rattle.hall.specs.RunSteps.{state_in, Became};
+ghost use Rattle.hall.specs.RunSteps.{state_of, Became};
 
 use super::Books;
-use auction::standing::{Counts, Ending, InFlight, Report, Standing, Verdict};
+use super::queues::Queues;
+use auction::standing::{Counts, InFlight, Report, Standing, Verdict};
 use refusals::Refusal;
-use rings::Ring;
 use sources::asking::row_length;
+use sources::checks::MOST_CARRIERS;
 use sources::source::Source;
 
 // How many looks go through so many entries.
@@ -51,144 +49,67 @@ fn waits_after(carrier: usize, verdict: Verdict) -> Option<usize>
     }
 }
 
-// Whether the flight is shorter than the depth and the line isn't empty.
-fn has_room(depth: usize, line: &Ring<'_, usize>, flight: &Ring<'_, InFlight>) -> bool
-    ensures { result ≡ (nat_lt (length (held flight.now)) depth && nat_lt 0 (length (held line.now))) }
-{
-    flight.len() < depth && !line.is_empty()
-}
-
-// Whether nobody is in line or flight.
-fn is_idle(line: &Ring<'_, usize>, flight: &Ring<'_, InFlight>) -> bool
-    ensures { result ≡ ((length (held line.now)) == 0 && (length (held flight.now)) == 0) }
-{
-    line.is_empty() && flight.is_empty()
-}
-
-// Done if nobody waits or bids.
-fn ending_of(line: &Ring<'_, usize>, flight: &Ring<'_, InFlight>) -> Ending
-    ensures { result ≡ (if nat_eq (length (held line.now)) 0 && (length (held flight.now)) == 0 then Ending.Done else Ending.Spent) }
-{
-    if is_idle(line, flight) {
-        Ending::Done
-    } else {
-        Ending::Spent
-    }
-}
-
 impl Books {
     // Summons the line's first, which joins the flight's end.
-    fn summon_first<S: Source>(
-        &mut self,
-        source: &S,
-        carrier: usize,
-        flight: &mut Ring<'_, InFlight>,
-    )
+    fn summon_first<S: Source>(&mut self, source: &S, carrier: usize, queues: &mut Queues<'_>)
         requires open { is_open (S.meaning source.now) self.old ≡ true }
-        requires place { length (held flight.old) < room flight.old }
-        ensures ready { is_open (S.meaning source.now) self.new ≡ true }
-        ensures tallied { tally_in self.new ≡ called (S.meaning source.now) carrier Summon (tally_in self.old) }
-        ensures joined { held flight.new ≡ held flight.old ++ in_flight carrier (looks_for self.old.lanes (length (row_of (S.meaning source.now) carrier))) ∷ [] }
-        ensures size { room flight.new ≡ room flight.old }
+        requires place { length (held queues.old.flight) < 128 }
+        ensures { Became (S.meaning source.now) (λ n. step_by (S.meaning source.now) true (carrier ∷ held queues.old.line) (held queues.old.flight) (tally_in self.old) n) self.new queues.new }
     {
         let looks_left = looks_for(self.lanes, row_length(source, carrier));
         let _ = self.summon(source, carrier);
-        let _ = flight.push(InFlight {
-            carrier,
-            looks_left,
-        });
+        queues.join_flight(carrier, looks_left);
     }
 
     // The flight's first is taken: with looks left it looks and goes to the flight's end; without, it settles, and a carrier that then waits joins the line's end.
-    fn first_acts<S: Source>(
-        &mut self,
-        source: &S,
-        first: InFlight,
-        line: &mut Ring<'_, usize>,
-        flight: &mut Ring<'_, InFlight>,
-    )
+    fn first_acts<S: Source>(&mut self, source: &S, first: InFlight, queues: &mut Queues<'_>)
         requires open { is_open (S.meaning source.now) self.old ≡ true }
-        requires line_place { length (held line.old) < room line.old }
-        requires flight_place { length (held flight.old) < room flight.old }
-        ensures became { Became (S.meaning source.now) (λ n. first_acts (S.meaning source.now) first.carrier first.looks_left (held line.old) (held flight.old) (tally_in self.old) n) self.new (held line.new) (held flight.new) }
-        ensures line_size { room line.new ≡ room line.old }
-        ensures flight_size { room flight.new ≡ room flight.old }
+        requires line_place { length (held queues.old.line) < 128 }
+        requires flight_place { length (held queues.old.flight) < 128 }
+        ensures { Became (S.meaning source.now) (λ n. first_acts (S.meaning source.now) first.carrier first.looks_left (held queues.old.line) (held queues.old.flight) (tally_in self.old) n) self.new queues.new }
     {
         if first.looks_left > 0 {
             let _ = self.look(source, first.carrier);
-            let _ = flight.push(InFlight {
-                carrier: first.carrier,
-                looks_left: first.looks_left - 1,
-            });
+            queues.join_flight(first.carrier, first.looks_left - 1);
             return;
         }
         if let Ok(verdict) = self.settle(source, first.carrier) {
             if let Some(carrier) = waits_after(first.carrier, verdict) {
-                let _ = line.push(carrier);
+                queues.join_line(carrier);
             }
         }
     }
 
     // One step: if the flight is shorter than the depth and the line isn't empty, the line's first is summoned; otherwise the flight's first is taken.
-    fn step<S: Source>(
-        &mut self,
-        source: &S,
-        depth: usize,
-        line: &mut Ring<'_, usize>,
-        flight: &mut Ring<'_, InFlight>,
-    )
+    fn step<S: Source>(&mut self, source: &S, depth: usize, queues: &mut Queues<'_>)
         requires open { is_open (S.meaning source.now) self.old ≡ true }
-        requires ordered { Ordered (S.meaning source.now) (state_in self.old (held line.old) (held flight.old) 0) }
-        requires busy { 0 < length (held line.old) + length (held flight.old) }
+        requires ordered { Ordered (S.meaning source.now) (state_of self.old queues.old 0) }
+        requires busy { 0 < length (held queues.old.line) + length (held queues.old.flight) }
         requires deep { 1 ≤ depth }
-        requires line_room { room line.old ≡ 128 }
-        requires flight_room { room flight.old ≡ 128 }
-        ensures became { Became (S.meaning source.now) (λ n. one_step (S.meaning source.now) depth (state_in self.old (held line.old) (held flight.old) n)) self.new (held line.new) (held flight.new) }
-        ensures line_size { room line.new ≡ 128 }
-        ensures flight_size { room flight.new ≡ 128 }
+        ensures { Became (S.meaning source.now) (λ n. one_step (S.meaning source.now) depth (state_of self.old queues.old n)) self.new queues.new }
     {
-        if has_room(depth, line, flight) {
-            if let Some(carrier) = line.pop() {
-                self.summon_first(source, carrier, flight);
-            }
-        } else if let Some(first) = flight.pop() {
-            self.first_acts(source, first, line, flight);
+        if let Some(carrier) = queues.next_to_summon(depth) {
+            self.summon_first(source, carrier, queues);
+        } else if let Some(first) = queues.next_to_act() {
+            self.first_acts(source, first, queues);
         }
     }
 
     // The flight begins with the bidding carriers and the line with the waiting ones, both ascending.
-    fn begin<S: Source>(
-        &self,
-        source: &S,
-        line: &mut Ring<'_, usize>,
-        flight: &mut Ring<'_, InFlight>,
-    )
+    fn begin<S: Source>(&self, source: &S, queues: &mut Queues<'_>)
         requires open { is_open (S.meaning source.now) self.now ≡ true }
-        requires line_empty { held line.old ≡ [] }
-        requires flight_empty { held flight.old ≡ [] }
-        requires line_room { room line.old ≡ 128 }
-        requires flight_room { room flight.old ≡ 128 }
-        ensures waits { held line.new ≡ gathered if_waiting 0 (tally_in self.now).standings }
-        ensures bids { held flight.new ≡ gathered (if_bidding (S.meaning source.now) self.now.lanes) 0 (tally_in self.now).standings }
-        ensures line_size { room line.new ≡ 128 }
-        ensures flight_size { room flight.new ≡ 128 }
+        requires nobody_waits { held queues.old.line ≡ [] }
+        requires nobody_bids { held queues.old.flight ≡ [] }
+        ensures { state_of self.now queues.new 0 ≡ beginning (S.meaning source.now) (tally_in self.now) }
     {
-        for carrier in 0..self.carriers {
-            let standing = self.standings[carrier];
-            match standing {
-                Standing::Waiting => {
-                    let _ = line.push(carrier);
-                }
+        for (carrier, standing) in self.standings[..self.carriers].iter().enumerate() {
+            match *standing {
+                Standing::Waiting => queues.join_line(carrier),
                 Standing::Bidding(bid) => {
                     let entries = row_length(source, carrier).saturating_sub(bid.looked);
-                    let looks_left = looks_for(self.lanes, entries);
-                    let _ = flight.push(InFlight {
-                        carrier,
-                        looks_left,
-                    });
+                    queues.join_flight(carrier, looks_for(self.lanes, entries));
                 }
-                Standing::Served(_) => {}
-                Standing::Out => {}
+                Standing::Served(_) | Standing::Out => {}
             }
         }
     }
@@ -199,24 +120,21 @@ impl Books {
         source: &S,
         depth: usize,
         budget: u64,
-        line: &mut Ring<'_, usize>,
-        flight: &mut Ring<'_, InFlight>,
+        queues: &mut Queues<'_>,
     ) -> u64
         requires open { is_open (S.meaning source.now) self.old ≡ true }
-        requires ordered { Ordered (S.meaning source.now) (state_in self.old (held line.old) (held flight.old) 0) }
+        requires ordered { Ordered (S.meaning source.now) (state_of self.old queues.old 0) }
         requires deep { 1 ≤ depth }
-        requires line_room { room line.old ≡ 128 }
-        requires flight_room { room flight.old ≡ 128 }
         ensures ready { is_open (S.meaning source.now) self.new ≡ true }
-        ensures made { state_in self.new (held line.new) (held flight.new) result ≡ many_steps (S.meaning source.now) depth budget (state_in self.old (held line.old) (held flight.old) 0) }
-        ensures ordered { Ordered (S.meaning source.now) (state_in self.new (held line.new) (held flight.new) 0) }
+        ensures made { state_of self.new queues.new result ≡ many_steps (S.meaning source.now) depth budget (state_of self.old queues.old 0) }
+        ensures ordered { Ordered (S.meaning source.now) (state_of self.new queues.new 0) }
         ensures grown { Grown self.old.counts self.new.counts }
     {
         for made in 0..budget {
-            if is_idle(line, flight) {
+            if queues.is_idle() {
                 return made;
             }
-            self.step(source, depth, line, flight);
+            self.step(source, depth, queues);
         }
         budget
     }
@@ -237,19 +155,19 @@ impl Books {
             return Err(Refusal::DepthOutside);
         }
         let before = self.counts;
-        let mut line_places = [0usize; 128];
-        let mut flight_places = [InFlight {
+        let nobody = InFlight {
             carrier: 0,
             looks_left: 0,
-        }; 128];
-        let mut line = Ring::new(&mut line_places);
-        let mut flight = Ring::new(&mut flight_places);
-        self.begin(source, &mut line, &mut flight);
-        let steps = self.make_steps(source, depth, budget, &mut line, &mut flight);
+        };
+        let mut line_places = [0; MOST_CARRIERS];
+        let mut flight_places = [nobody; MOST_CARRIERS];
+        let mut queues = Queues::new(&mut line_places, &mut flight_places);
+        self.begin(source, &mut queues);
+        let steps = self.make_steps(source, depth, budget, &mut queues);
         Ok(Report {
             steps,
             counts: since(before, self.counts),
-            ending: ending_of(&line, &flight),
+            ending: queues.ending(),
         })
     }
 }

@@ -1,24 +1,30 @@
-use Rattle.std.proofs.Common.{◌-◌, ◌<◌, [], ◌∷◌, ◌++◌, length, sym, ap, ◌∙◌, arith, rules}
-use Rattle.std.proofs.lemmas.List.{append-nil}
-use Rattle.rings.specs.Held.{held, room}
-use Rattle.rings.proofs.Uses.{pushed}
+use Rattle.std.proofs.Common.{◌-◌, [], ◌∷◌, ◌++◌, length, take, inl, inr, sym, ap, ◌∙◌, arith}
+use Rattle.std.proofs.lemmas.List.{append-nil, take_all}
+use Rattle.rings.specs.Held.{held}
 use Rattle.auction.specs.declared.standing.Standing.TheVariants.{Waiting, Bidding, Served, Out}
-use Rattle.auction.specs.Runs.{in_flight, looks_for, if_waiting, if_bidding}
-use Rattle.hall.proofs.Tables.{consistent_in, few_places}
-use Rattle.hall.proofs.RunSteps.{few_entries, gathered_few, gathered_on, one_waits, one-bids}
+use Rattle.auction.specs.Runs.{in_flight, looks_for, gathered, if_waiting, if_bidding}
+use Rattle.hall.proofs.Tables.{consistent_in}
+use Rattle.hall.proofs.RunSteps.{few_entries, few_standings, gathered_few, gathered_on, one_waits, one-bids, same_start}
 use Rattle.hall.proofs.books.Books.begin.Goals as goal
-use Rattle.hall.proofs.books.Books.begin.Goals.{in-Waiting, in-Bidding, in-Served, in-Out}
+use Rattle.hall.proofs.books.Books.begin.Goals.{in-Waiting, in-Bidding, in-Served}
 
-pub offset_bounds-self-carrier : goal.offset_bounds-self-carrier
-offset_bounds-self-carrier g c =
-    let l : c.loop-carrier.carrier < 128 = few_places c.args.self.now c.loop-carrier.carrier c.loop-carrier-test.true in
-    search rules
+pub join_line-requires : goal.join_line-requires
+join_line-requires g c =
+    let b = c.args.self.now in
+    omega (arith, ap length c.loop-carrier.invariant.waits, gathered_few if_waiting (take b.carriers b.standings) c.loop-carrier.carrier c.loop-carrier-test.true one_waits (few_standings b))
 
-pub bounds-self-carrier : goal.bounds-self-carrier
-bounds-self-carrier g c = few_places c.args.self.now c.loop-carrier.carrier c.loop-carrier-test.true
+pub join_flight-requires : goal.join_flight-requires
+join_flight-requires g c =
+    let m = g.S.Source.meaning c.args.source.now in
+    let b = c.args.self.now in
+    omega (
+      arith,
+      ap length c.loop-carrier.invariant.bids,
+      gathered_few (if_bidding m b.lanes) (take b.carriers b.standings) c.loop-carrier.carrier c.loop-carrier-test.true (one-bids m b.lanes) (few_standings b),
+    )
 
-pub looks_for-looks_left-requires : goal.looks_for-looks_left-requires
-looks_for-looks_left-requires g c =
+pub looks_for-requires : goal.looks_for-requires
+looks_for-requires g c =
     let m = g.S.Source.meaning c.args.source.now in
     let k = (consistent_in c.args.self.now).limits in
     record {
@@ -31,38 +37,40 @@ pub loop-carrier-preserved : goal.loop-carrier-preserved
 loop-carrier-preserved g c =
     let m = g.S.Source.meaning c.args.source.now in
     let b = c.args.self.now in
+    let ss = take b.carriers b.standings in
     let i = c.loop-carrier.carrier in
-    let l : i < b.carriers = c.loop-carrier-test.true in
+    let l = c.loop-carrier-test.true in
     let inv = c.loop-carrier.invariant in
+    let bids = if_bidding m b.lanes in
+    let q = c.loop-carrier.queues in
+    let q' = c.match-standing.queues in
     elim c.match-standing.branch [
-      | in-Waiting w ↦
-          let n : length (held c.loop-carrier.line) < room c.loop-carrier.line = omega (arith, ap length inv.0, gathered_few if_waiting b one_waits i l, inv.2) in (
-            gathered_on if_waiting b i Waiting (held c.loop-carrier.line) (held c.match-standing.line) l w.in-Waiting.is inv.0
-                (ap held w.line-is ∙ pushed w.push.result (held c.loop-carrier.line) (held w.push.new.self) i (room c.loop-carrier.line) w.push.ensures.holds w.push.ensures.test n),
-            gathered_on (if_bidding m b.lanes) b i Waiting (held c.loop-carrier.flight) (held c.match-standing.flight) l w.in-Waiting.is inv.1 (ap held w.flight-is ∙ sym (append-nil _)),
-            ap room w.line-is ∙ w.push.ensures.size ∙ inv.2,
-            ap room w.flight-is ∙ inv.3,
-          )
-      | in-Bidding w ↦
-          let n : length (held c.loop-carrier.flight) < room c.loop-carrier.flight = omega (arith, ap length inv.1, gathered_few (if_bidding m b.lanes) b (one-bids m b.lanes) i l, inv.3) in (
-            gathered_on if_waiting b i (Bidding w.in-Bidding.bid) (held c.loop-carrier.line) (held c.match-standing.line) l w.in-Bidding.is inv.0 (ap held w.line-is ∙ sym (append-nil _)),
-            gathered_on (if_bidding m b.lanes) b i (Bidding w.in-Bidding.bid) (held c.loop-carrier.flight) (held c.match-standing.flight) l w.in-Bidding.is inv.1
-                (ap held w.flight-is ∙ pushed w.push-in-Bidding.result (held c.loop-carrier.flight) (held w.push-in-Bidding.new.self) _ (room c.loop-carrier.flight) w.push-in-Bidding.ensures.holds w.push-in-Bidding.ensures.test n
-                ∙ ap (λ z. held c.loop-carrier.flight ++ in_flight i z ∷ [])
-                (w.looks_for-looks_left.ensures ∙ ap (looks_for b.lanes) (w.saturating_sub-entries.ensures ∙ ap (λ z. z - w.in-Bidding.bid.looked) w.row_length.ensures))),
-            ap room w.line-is ∙ inv.2,
-            ap room w.flight-is ∙ w.push-in-Bidding.ensures.size ∙ inv.3,
-          )
-      | in-Served w ↦ (
-        gathered_on if_waiting b i (Served w.in-Served.field-0) (held c.loop-carrier.line) (held c.match-standing.line) l w.in-Served.is inv.0 (ap held w.line-is ∙ sym (append-nil _)),
-        gathered_on (if_bidding m b.lanes) b i (Served w.in-Served.field-0) (held c.loop-carrier.flight) (held c.match-standing.flight) l w.in-Served.is inv.1 (ap held w.flight-is ∙ sym (append-nil _)),
-        ap room w.line-is ∙ inv.2,
-        ap room w.flight-is ∙ inv.3,
-      )
-      | in-Out w ↦ (
-        gathered_on if_waiting b i Out (held c.loop-carrier.line) (held c.match-standing.line) l w.in-Out.is inv.0 (ap held w.line-is ∙ sym (append-nil _)),
-        gathered_on (if_bidding m b.lanes) b i Out (held c.loop-carrier.flight) (held c.match-standing.flight) l w.in-Out.is inv.1 (ap held w.flight-is ∙ sym (append-nil _)),
-        ap room w.line-is ∙ inv.2,
-        ap room w.flight-is ∙ inv.3,
-      )
+      | in-Waiting w ↦ record {
+        waits = gathered_on if_waiting ss i l Waiting (held q.line) (held q'.line) w.in-Waiting.is inv.waits (ap (λ z. held z.line) w.queues-is ∙ w.join_line.ensures.waits);
+        bids = gathered_on bids ss i l Waiting (held q.flight) (held q'.flight) w.in-Waiting.is inv.bids
+            (ap (λ z. held z.flight) w.queues-is ∙ w.join_line.ensures.bids ∙ sym (append-nil _));
+      }
+      | in-Bidding w ↦ record {
+        waits = gathered_on if_waiting ss i l (Bidding w.in-Bidding.bid) (held q.line) (held q'.line) w.in-Bidding.is inv.waits
+            (ap (λ z. held z.line) w.queues-is ∙ w.join_flight.ensures.waits ∙ sym (append-nil _));
+        bids = gathered_on bids ss i l (Bidding w.in-Bidding.bid) (held q.flight) (held q'.flight) w.in-Bidding.is inv.bids
+            (ap (λ z. held z.flight) w.queues-is ∙ w.join_flight.ensures.bids
+            ∙ ap (λ z. held q.flight ++ in_flight i z ∷ [])
+            (w.looks_for.ensures ∙ ap (looks_for b.lanes) (w.saturating_sub-entries.ensures ∙ ap (λ z. z - w.in-Bidding.bid.looked) w.row_length.ensures)));
+      }
+      | in-Served w ↦
+          let waits = ap (λ z. held z.line) w.queues-is ∙ sym (append-nil _) in
+          let flies = ap (λ z. held z.flight) w.queues-is ∙ sym (append-nil _) in
+          elim w.in-Served.is [
+            | inl (h, e) ↦ record { waits = gathered_on if_waiting ss i l (Served h) _ _ e inv.waits waits; bids = gathered_on bids ss i l (Served h) _ _ e inv.bids flies }
+            | inr e ↦ record { waits = gathered_on if_waiting ss i l Out _ _ e inv.waits waits; bids = gathered_on bids ss i l Out _ _ e inv.bids flies }
+          ]
     ]
+
+pub returns : goal.returns
+returns g c =
+    let m = g.S.Source.meaning c.args.source.now in
+    let b = c.args.self.now in
+    let inv = c.loop-carrier.invariant in
+    let all = take_all c.loop-carrier.carrier (take b.carriers b.standings) c.loop-carrier-test.false in
+    same_start m b c.loop-carrier.queues (inv.waits ∙ ap (gathered if_waiting 0) all) (inv.bids ∙ ap (gathered (if_bidding m b.lanes) 0) all)

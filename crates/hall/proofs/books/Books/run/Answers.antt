@@ -1,9 +1,8 @@
 use Rattle.std.proofs.Common.{◌≡◌, ◌≤◌, true, false, sym, ap, ◌∙◌, arith}
 use Rattle.std.proofs.lemmas.Grind.{common_steps}
 use Rattle.auction.specs.Rules.{between}
-use Rattle.rings.specs.Held.{held}
 use Rattle.auction.specs.Runs.{many_steps}
-use Rattle.hall.proofs.RunSteps.{same_start, start_ordered, run_ruled, run_reported, run_unopened, run_undeep}
+use Rattle.hall.proofs.RunSteps.{start_ordered, run_ruled, run_reported, run_unopened, run_undeep}
 use Rattle.hall.proofs.books.Books.run.Goals as goal
 
 pub returns-then-not-is_open : goal.returns-then-not-is_open
@@ -22,16 +21,10 @@ returns-then-not-contains g c =
 
 pub make_steps-steps-requires : goal.make_steps-steps-requires
 make_steps-steps-requires g c =
-    let m = g.S.Source.meaning c.args.source.now in
-    let b = c.args.self.now in
-    let line = held c.begin.new.line in
-    let fs = held c.begin.new.flight in
     record {
       «open» = sym c.if-not-is_open.ensures;
-      ordered = start_ordered m b line fs (same_start m b line fs c.begin.ensures.waits c.begin.ensures.bids);
+      ordered = start_ordered (g.S.Source.meaning c.args.source.now) c.args.self.now c.begin.new.queues c.begin.ensures;
       deep = grind (arith, common_steps);
-      line_room = c.begin.ensures.line_size;
-      flight_room = c.begin.ensures.flight_size;
     }
 
 pub returns : goal.returns
@@ -40,14 +33,12 @@ returns g c =
     let sound = g.S.Source.sound c.args.source.now in
     let old = c.args.self.now in
     let new = c.make_steps-steps.new.self in
-    let line = held c.make_steps-steps.new.line in
-    let fs = held c.make_steps-steps.new.flight in
+    let q = c.make_steps-steps.new.queues in
     let o = sym c.if-not-is_open.ensures in
     let d : between 1 128 c.args.depth ≡ true = grind (arith, common_steps) in
     let deep : 1 ≤ c.args.depth = grind (arith, common_steps) in
-    let start = same_start m old (held c.begin.new.line) (held c.begin.new.flight) c.begin.ensures.waits c.begin.ensures.bids in
-    let made = c.make_steps-steps.ensures.made ∙ ap (many_steps m c.args.depth c.args.budget) start in
+    let made = c.make_steps-steps.ensures.made ∙ ap (many_steps m c.args.depth c.args.budget) c.begin.ensures in
     record {
-      ruled = run_ruled m sound c.args.depth c.args.budget old new line fs c.make_steps-steps.result d o c.make_steps-steps.ensures.ready made c.make_steps-steps.ensures.ordered c.ending_of.result c.ending_of.ensures c.since.result c.since.ensures;
-      reported = run_reported m sound c.args.depth c.args.budget old new line fs c.make_steps-steps.result d o c.make_steps-steps.ensures.ready made c.make_steps-steps.ensures.ordered c.ending_of.result c.ending_of.ensures c.since.result c.since.ensures deep;
+      ruled = run_ruled m sound c.args.depth c.args.budget old new q c.make_steps-steps.result d o c.make_steps-steps.ensures.ready made c.make_steps-steps.ensures.ordered c.ending.result c.ending.ensures c.since.result c.since.ensures;
+      reported = run_reported m sound c.args.depth c.args.budget old new q c.make_steps-steps.result d o c.make_steps-steps.ensures.ready made c.make_steps-steps.ensures.ordered c.ending.result c.ending.ensures c.since.result c.since.ensures deep;
     }
