@@ -16,7 +16,8 @@ use Rattle.sheetfile.specs.Laws.{LoadsExactly}
 use Rattle.sheetfile.specs.Layout.{LongEnough, SheetFile, file_of, meaning_of}
 use Rattle.sheetfile.specs.Reading.{loaded}
 use Rattle.sheetfile.specs.Steps.{and_then, room_for, updated}
-use Rattle.sheetfile.specs.Tables.{entries_after, heading_answer, over, starts_after}
+use Rattle.numbers.specs.Writing.{over}
+use Rattle.sheetfile.specs.Tables.{entries_after, heading_answer, starts_after}
 use Rattle.sheetfile.specs.Writing.{rewrite_answer, tables_answer, write_answer, written}
 use Rattle.sheetfile.proofs.Again.{no_zeros_in}
 use Rattle.sheetfile.proofs.Bounds.{bounded}

@@ -5,6 +5,7 @@ pub mod Rows
 pub mod Tables
 pub mod Sheets
 pub mod Overs
+pub mod Readers
 pub mod Loading
 pub mod Writing
 pub mod Again

@@ -12,7 +12,8 @@ use Rattle.sheetfile.specs.Layout.{Row, entries_in, meaning_of}
 use Rattle.sheetfile.specs.Reading.{closed_at, heading_from, heading_in, loaded, row_in, rows_from}
 use Rattle.sheetfile.specs.States.{after_row, closing, entries_after_row, headed_by, next_row, starts_after_row}
 use Rattle.sheetfile.specs.Steps.{and_then, prefixed, room_for, updated}
-use Rattle.sheetfile.specs.Tables.{heading_answer, over}
+use Rattle.numbers.specs.Writing.{over}
+use Rattle.sheetfile.specs.Tables.{heading_answer}
 use Rattle.sheetfile.specs.declared.loader.Bare.{Bare}
 use Rattle.sheetfile.specs.declared.loader.Headed.{Headed}
 use Rattle.sheetfile.proofs.Overs.{over_none, over-over, over-set}
@@ -43,12 +44,12 @@ pub record Underway (bs starts₀ : List ℕ) (entries₀ : List Entry) (n i : �
   pub all : List Row
   pub left : List Row
   pub end : ℕ
-  pub same : l.bytes.now ≡ bs
+  pub same : l.reader.bytes.now ≡ bs
   pub last : n ≡ l.heading.carriers
   pub count : l.rows ≡ i
   pub whole : loaded bs (length starts₀) (length entries₀) ≡ Ok (meaning_of l.heading all)
   pub long : l.heading.carriers + 1 ≤ length starts₀
-  pub next : rows_from bs l.heading (length entries₀) (l.heading.carriers - i) l.used l.at ≡ Ok (left, end)
+  pub next : rows_from bs l.heading (length entries₀) (l.heading.carriers - i) l.used l.reader.at ≡ Ok (left, end)
   pub closes : closed_at bs (l.used + entries_in left) end ≡ Ok tt
   pub starts_left : over starts (i + 1) (ends_of l.used left) ≡ over starts₀ 1 (ends_of 0 all)
   pub entries_left : over entries l.used (entries_of left) ≡ over entries₀ 0 (entries_of all)
@@ -60,17 +61,17 @@ module _ (bs starts₀ : List ℕ) (entries₀ : List Entry) (n i : ℕ) (l : He
     some : 0 < l.heading.carriers - i
     some = omega (arith, g.last)
 
-    pub first : (row : Row) × (next : ℕ) × (rest : List Row) × (g.left ≡ row ∷ rest) × (row_in bs l.heading (length entries₀) l.used l.at ≡ Ok (row, next))
+    pub first : (row : Row) × (next : ℕ) × (rest : List Row) × (g.left ≡ row ∷ rest) × (row_in bs l.heading (length entries₀) l.used l.reader.at ≡ Ok (row, next))
         × (rows_from bs l.heading (length entries₀) (l.heading.carriers - i - 1) (l.used + length row) next ≡ Ok (rest, g.end))
-    first = rows_first bs l.heading (length entries₀) (l.heading.carriers - i) l.used l.at g.left g.end g.next some
+    first = rows_first bs l.heading (length entries₀) (l.heading.carriers - i) l.used l.reader.at g.left g.end g.next some
 
     -- the next row is accepted
     pub accepted : next_row l (length starts) (length entries) ≡ Ok (first.0, first.1)
     accepted =
         let c = g.count in let e = g.last in let o = g.long in
-        tests (ltb l.rows l.heading.carriers) (and_then (row_in l.bytes.now l.heading (length entries) l.used l.at) (λ r. room_for (fault_of TooShort) (l.rows + 2) (length starts) r)) (Err (fault_of NoRowLeft)) (lt-ltb l.rows l.heading.carriers (omega arith))
-        ∙ follows (row_in l.bytes.now l.heading (length entries) l.used l.at) (λ r. room_for (fault_of TooShort) (l.rows + 2) (length starts) r) (first.0, first.1) (Ok (first.0, first.1))
-        (ap (λ b. row_in b l.heading (length entries) l.used l.at) g.same ∙ ap (λ m. row_in bs l.heading m l.used l.at) le ∙ first.4)
+        tests (ltb l.rows l.heading.carriers) (and_then (row_in l.reader.bytes.now l.heading (length entries) l.used l.reader.at) (λ r. room_for (fault_of TooShort) (l.rows + 2) (length starts) r)) (Err (fault_of NoRowLeft)) (lt-ltb l.rows l.heading.carriers (omega arith))
+        ∙ follows (row_in l.reader.bytes.now l.heading (length entries) l.used l.reader.at) (λ r. room_for (fault_of TooShort) (l.rows + 2) (length starts) r) (first.0, first.1) (Ok (first.0, first.1))
+        (ap (λ b. row_in b l.heading (length entries) l.used l.reader.at) g.same ∙ ap (λ m. row_in bs l.heading m l.used l.reader.at) le ∙ first.4)
         (room_there (fault_of TooShort) (l.rows + 2) (length starts) (first.0, first.1) (omega arith))
 
     underway_more : Underway bs starts₀ entries₀ n (i + 1) (after_row l (first.0, first.1)) (starts_after_row l starts (first.0, first.1)) (entries_after_row l entries (first.0, first.1))
@@ -78,7 +79,7 @@ module _ (bs starts₀ : List ℕ) (entries₀ : List Entry) (n i : ℕ) (l : He
         let c = g.count in let e = g.last in let o = g.long in
         let is = first.3 in
         let used = l.used in
-        let fit = (row_fits bs l.heading (length entries₀) l.used l.at (first.0, first.1) first.4).1 in
+        let fit = (row_fits bs l.heading (length entries₀) l.used l.reader.at (first.0, first.1) first.4).1 in
         let one : l.heading.carriers - (i + 1) ≡ l.heading.carriers - i - 1 = omega arith in
         record {
           all = g.all;
@@ -114,18 +115,18 @@ module _ (bs starts₀ : List ℕ) (entries₀ : List Entry) (n i : ℕ) (l : He
         (subst (λ z. Underway bs starts₀ entries₀ n (i + 1) (after_row l (first.0, first.1)) (starts_after_row l starts (first.0, first.1)) z) e' underway_more))
 
   module _ (done : n ≤ i) where
-    none : rows_from bs l.heading (length entries₀) (l.heading.carriers - i) l.used l.at ≡ Ok ([], l.at)
-    none = rows_none bs l.heading (length entries₀) (l.heading.carriers - i) l.used l.at (omega (arith, g.last))
+    none : rows_from bs l.heading (length entries₀) (l.heading.carriers - i) l.used l.reader.at ≡ Ok ([], l.reader.at)
+    none = rows_none bs l.heading (length entries₀) (l.heading.carriers - i) l.used l.reader.at (omega (arith, g.last))
 
-    both : ◌≡◌ {A = List Row × ℕ} ([], l.at) (g.left, g.end)
-    both = ok_same ([], l.at) (g.left, g.end) (sym none ∙ g.next)
+    both : ◌≡◌ {A = List Row × ℕ} ([], l.reader.at) (g.left, g.end)
+    both = ok_same ([], l.reader.at) (g.left, g.end) (sym none ∙ g.next)
 
     pub closes_now : closing l ≡ Ok tt
     closes_now =
         let c = g.count in let e = g.last in
         let z : l.used ≡ l.used + entries_in g.left = omega (arith, ap (λ (p : List Row × ℕ). entries_in p.0) both) in
-        cond-false (ltb l.rows l.heading.carriers) (Err (fault_of RowsMissing)) (closed_at l.bytes.now l.used l.at) (le-ltb l.rows l.heading.carriers (omega arith))
-        ∙ ap (λ b. closed_at b l.used l.at) g.same ∙ ap (λ m. closed_at bs m l.at) z ∙ ap (λ (p : List Row × ℕ). closed_at bs (l.used + entries_in g.left) p.1) both ∙ g.closes
+        cond-false (ltb l.rows l.heading.carriers) (Err (fault_of RowsMissing)) (closed_at l.reader.bytes.now l.used l.reader.at) (le-ltb l.rows l.heading.carriers (omega arith))
+        ∙ ap (λ b. closed_at b l.used l.reader.at) g.same ∙ ap (λ m. closed_at bs m l.reader.at) z ∙ ap (λ (p : List Row × ℕ). closed_at bs (l.used + entries_in g.left) p.1) both ∙ g.closes
 
     pub starts_done : starts ≡ over starts₀ 1 (ends_of 0 g.all)
     starts_done = sym (over_none starts (i + 1)) ∙ ap (λ (p : List Row × ℕ). over starts (i + 1) (ends_of l.used p.0)) both ∙ g.starts_left
@@ -152,7 +153,7 @@ module _ (bs starts : List ℕ) (entries : List Entry) (h : Heading) (b : Bare) 
     underway_first l is =
         let k = headed_ok b (heading_in b.bytes.now (length starts)) l is in
         let same : k.0 ≡ (heading_of file.0, parts.0) = ok_same k.0 (heading_of file.0, parts.0) (sym k.1 ∙ heading_there) in
-        let there : l ≡ record { bytes = b.bytes; heading = heading_of file.0; at = parts.0; rows = 0; used = 0 } = k.2 ∙ ap (λ (x : Heading × ℕ). record { bytes = b.bytes; heading = x.0; at = x.1; rows = 0; used = 0 }) same in
+        let there : l ≡ record { reader = record { bytes = b.bytes; at = parts.0 }; heading = heading_of file.0; rows = 0; used = 0 } = k.2 ∙ ap (λ (x : Heading × ℕ). record { reader = record { bytes = b.bytes; at = x.1 }; heading = x.0; rows = 0; used = 0 }) same in
         let f = followed (heading_from bs 0) (λ h. room_for (fault_of TooShort) (h.0.carriers + 1) (length starts) h) (heading_of file.0, parts.0) parts.2 in
         let fits = roomy (fault_of TooShort) (f.0.0.carriers + 1) (length starts) f.0 (heading_of file.0, parts.0) f.2 in
         let fits' : file.0.carriers + 1 ≤ length starts = subst (λ (y : Heading × ℕ). y.0.carriers + 1 ≤ length starts) fits.1 fits.0 in

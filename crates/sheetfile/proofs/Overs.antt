@@ -1,7 +1,7 @@
 -- Writes to parts of a table, one after another.
 use Rattle.std.proofs.Common.{◌≡◌, ℕ, suc, ◌+◌, ◌<◌, ◌≤◌, List, [], ◌∷◌, ◌++◌, length, take, drop, set, sym, ap, ◌∙◌, arith}
 use Rattle.std.proofs.lemmas.List.{append_assoc, drop_at, drop-drop, drop-set-lt, length-append, length-take-le, take-append-drop, take_at, take_more_set}
-use Rattle.sheetfile.specs.Tables.{over}
+use Rattle.numbers.specs.Writing.{over}
 
 module _ {A : Type 0} (xs : List A) where
   pub over_none : (n : ℕ) → over xs n [] ≡ xs

@@ -1,6 +1,6 @@
 -- The steps of a loop that reads a row.
 use Rattle.std.proofs.Common.{◌≡◌, ℕ, zero, suc, ◌+◌, ◌-◌, ◌<◌, ◌≤◌, cond, ◌&&◌, ltb, leb, List, [], ◌∷◌, ◌++◌, map, length, take, set, Ok, Err, Result, sym, refl, ap, ◌∙◌, subst, arith}
-use Rattle.std.proofs.lemmas.List.{append_assoc, append-nil, length-map, length_push, length-set, map_push, take_all, take-append-le, take_more_set}
+use Rattle.std.proofs.lemmas.List.{append_assoc, length-map, length_push, length-set, map_push, take_all, take-append-le, take_more_set}
 use Rattle.refusals.specs.Faults.{fault_at}
 use Rattle.refusals.specs.declared.Fault.{Fault}
 use Rattle.refusals.specs.declared.Refusal.TheVariants.{JobOutOfOrder}
@@ -11,7 +11,7 @@ use Rattle.sources.specs.declared.form.Heading.{Heading}
 use Rattle.sheetfile.specs.Layout.{Row}
 use Rattle.sheetfile.specs.Reading.{entries_from, entry_from, job_from, row_from, worth_from}
 use Rattle.sheetfile.specs.Steps.{and_then, prefixed}
-use Rattle.sheetfile.specs.Tables.{BeginsWith, HoldsRow, row_count}
+use Rattle.sheetfile.specs.Tables.{BeginsWith, HoldsRow}
 use Rattle.sheetfile.proofs.Steps.{below, followed, follows, ok_same, tested}
 
 pub prefixed_none : {A : Type 0} (r : Result (List A × ℕ) Fault) → prefixed [] r ≡ r
@@ -42,10 +42,8 @@ module _ (bs : List ℕ) (h : Heading) where
   entries_none n low at none = ap (λ m. entries_from bs h m low at) none
 
 -- what was read of a row, in its table
-pub held : (table : List Entry) (row : Row) (at : ℕ) (r : Result (Row × ℕ) Fault) → BeginsWith table row → r ≡ Ok (row ++ [], at) → (Ok (length row, at) ≡ row_count r) × HoldsRow r table
-held table row at r begins is =
-    let e : r ≡ Ok (row, at) = is ∙ ap (λ l. Ok (l, at)) (append-nil row) in
-    rw e (refl, begins)
+pub held : (table : List Entry) (row : Row) (at : ℕ) (r : Result (Row × ℕ) Fault) → BeginsWith table row → r ≡ Ok (row, at) → HoldsRow r table
+held table row at r begins is = subst (λ q. HoldsRow q table) (sym is) begins
 
 module _ (table : List Entry) (row : Row) (x : ℕ × ℕ) (begins : BeginsWith table row) where
   -- a turn of the loop, with a place for the entry and without
@@ -67,8 +65,8 @@ module _ (table : List Entry) (row : Row) (x : ℕ × ℕ) (begins : BeginsWith 
       ∙ sym (take-append-le (length table) (map entry_of row) (entry_of x ∷ []) (omega (arith, n))) ∙ ap (take (length table)) (sym (map_push entry_of row x))
 
 -- a refused row
-pub refused : (table : List Entry) (e : Fault) (r : Result (Row × ℕ) Fault) → r ≡ Err e → (Err e ≡ row_count r) × HoldsRow r table
-refused table e r is = rw is (refl, tt)
+pub refused : (table : List Entry) (e : Fault) (r : Result (Row × ℕ) Fault) → r ≡ Err e → HoldsRow r table
+refused table e r is = subst (λ q. HoldsRow q table) (sym is) tt
 
 -- the row is its entries
 pub row_entries : (bs : List ℕ) (h : Heading) (at n next : ℕ) (r : Result (Row × ℕ) Fault) → read_at bs at ≡ Ok (n, next) → entries_from bs h n 0 next ≡ r → row_from bs h at ≡ r

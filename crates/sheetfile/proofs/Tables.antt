@@ -11,25 +11,32 @@ use Rattle.sources.specs.Tables.{entry_of, heading_of}
 use Rattle.sources.specs.declared.form.Entry.{Entry}
 use Rattle.sources.specs.declared.form.Heading.{Heading}
 use Rattle.sheetfile.specs.Layout.{Row}
+use Rattle.sheetfile.specs.Readers.{value_of}
 use Rattle.sheetfile.specs.Reading.{row_from, row_in}
 use Rattle.sheetfile.specs.States.{closed_by, headed_by, next_row}
 use Rattle.sheetfile.specs.Steps.{and_then, room_for, updated, without_value}
-use Rattle.sheetfile.specs.Tables.{BeginsWith, HoldsRow, heading_answer, over, row_count}
+use Rattle.numbers.specs.Writing.{over}
+use Rattle.sheetfile.specs.Tables.{BeginsWith, HoldsRow, heading_answer, row_count}
 use Rattle.sheetfile.specs.declared.loader.Bare.{Bare}
 use Rattle.sheetfile.specs.declared.loader.Closed.{Closed}
 use Rattle.sheetfile.specs.declared.loader.Headed.{Headed}
 use Rattle.sheetfile.specs.declared.loader.Refused.{Refused}
 use Rattle.sheetfile.proofs.Steps.{err_not_ok, followed, ok_same, roomy, tested}
 
-pub count_err : (r : Result (Row × ℕ) Fault) (e : Fault) → Err e ≡ row_count r → r ≡ Err e
-count_err (Err d) e is = let same : d ≡ e = cc in ap Err same
-count_err (Ok (row, at)) e is = err_not_ok e (length row, at) is
+-- a row whose count alone is told
+pub row_ok : (r : Result (Row × ℕ) Fault) (n at : ℕ) → row_count r ≡ Ok (n, at) → (row : Row) × (r ≡ Ok (row, at)) × (length row ≡ n)
+row_ok (Err d) n at is = err_not_ok d (n, at) is
+row_ok (Ok (row, end)) n at is =
+    let e = ok_same (length row, end) (n, at) is in
+    (row, ap (λ m. Ok (row, m)) (ap (λ (p : ℕ × ℕ). p.1) e), ap (λ (p : ℕ × ℕ). p.0) e)
 
-pub count_ok : (r : Result (Row × ℕ) Fault) (n at : ℕ) → Ok (n, at) ≡ row_count r → (row : Row) × (r ≡ Ok (row, at)) × (length row ≡ n)
-count_ok (Err d) n at is = err_not_ok d (n, at) (sym is)
-count_ok (Ok (row, end)) n at is =
-    let e = ok_same (n, at) (length row, end) is in
-    (row, ap (λ m. Ok (row, m)) (sym (ap (λ (p : ℕ × ℕ). p.1) e)), sym (ap (λ (p : ℕ × ℕ). p.0) e))
+pub row_err : (r : Result (Row × ℕ) Fault) (e : Fault) → row_count r ≡ Err e → r ≡ Err e
+row_err (Err d) e is = let same : d ≡ e = cc in ap Err same
+row_err (Ok (row, at)) e is = err_not_ok e (length row, at) (sym is)
+
+pub counted : (r : Result (Row × ℕ) Fault) (n : ℕ) → Ok n ≡ value_of (row_count r) → (row : Row) × (at : ℕ) × (r ≡ Ok (row, at)) × (length row ≡ n)
+counted (Err d) n is = err_not_ok d n (sym is)
+counted (Ok (row, end)) n is = (row, end, refl, sym (ok_same n (length row) is))
 
 module _ {A : Type 0} (r : Result A Fault) where
   pub answer_err : (e : Fault) → r ≡ Err e → Err e ≡ without_value r
@@ -46,12 +53,11 @@ module _ {A : Type 0} (r : Result A Fault) where
 
 -- what an accepted row keeps to
 pub row_accepted : (l : Headed) (starts room : ℕ) (x : Row × ℕ) → next_row l starts room ≡ Ok x
-    → (row_from l.bytes.now l.heading l.at ≡ Ok x) × (l.used + length x.0 ≤ room) × (l.rows + 2 ≤ starts) × (l.rows < l.heading.carriers)
+    → (row_from l.reader.bytes.now l.heading l.reader.at ≡ Ok x) × (l.used + length x.0 ≤ room) × (l.rows + 2 ≤ starts) × (l.rows < l.heading.carriers)
 row_accepted l starts room x is =
-    let bs = l.bytes.now in
-    let t = tested (ltb l.rows l.heading.carriers) (and_then (row_in l.bytes.now l.heading room l.used l.at) (λ r. room_for (fault_of TooShort) (l.rows + 2) starts r)) (fault_of NoRowLeft) x is in
-    let f = followed (row_in l.bytes.now l.heading room l.used l.at) (λ r. room_for (fault_of TooShort) (l.rows + 2) starts r) x t.1 in
-    let g = followed (row_from l.bytes.now l.heading l.at) (λ r. room_for (fault_of TooShort) (l.used + length r.0) room r) f.0 f.1 in
+    let t = tested (ltb l.rows l.heading.carriers) (and_then (row_in l.reader.bytes.now l.heading room l.used l.reader.at) (λ r. room_for (fault_of TooShort) (l.rows + 2) starts r)) (fault_of NoRowLeft) x is in
+    let f = followed (row_in l.reader.bytes.now l.heading room l.used l.reader.at) (λ r. room_for (fault_of TooShort) (l.rows + 2) starts r) x t.1 in
+    let g = followed (row_from l.reader.bytes.now l.heading l.reader.at) (λ r. room_for (fault_of TooShort) (l.used + length r.0) room r) f.0 f.1 in
     let p = roomy (fault_of TooShort) (l.rows + 2) starts f.0 x f.2 in
     let q = roomy (fault_of TooShort) (l.used + length g.0.0) room g.0 f.0 g.2 in
     let same : g.0 ≡ x = q.1 ∙ p.1 in
@@ -79,7 +85,7 @@ heading_ok (Err e) h is = err_not_ok e h (sym is)
 heading_ok (Ok m) h is = (m, refl, ok_same h (heading_of m) is)
 
 -- a loader with a heading
-pub headed_ok : (b : Bare) (r : Result (Heading × ℕ) Fault) (l : Headed) → Ok l ≡ headed_by b r → (x : Heading × ℕ) × (r ≡ Ok x) × (l ≡ record { bytes = b.bytes; heading = x.0; at = x.1; rows = 0; used = 0 })
+pub headed_ok : (b : Bare) (r : Result (Heading × ℕ) Fault) (l : Headed) → Ok l ≡ headed_by b r → (x : Heading × ℕ) × (r ≡ Ok x) × (l ≡ record { reader = record { bytes = b.bytes; at = x.1 }; heading = x.0; rows = 0; used = 0 })
 headed_ok b (Err e) l is = absurd (let z : ◌≡◌ {A = ℕ} 0 1 = cc in omega arith)
 headed_ok b (Ok (h, at)) l is = ((h, at), refl, cc)
 

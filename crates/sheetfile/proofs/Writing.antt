@@ -14,7 +14,7 @@ use Rattle.sources.proofs.Reading.{entry_past, row_known, row_len_none, row_leng
 use Rattle.sources.specs.Meaning.{Meaning, Sound, entry_at, row_len, row_of}
 use Rattle.sources.specs.declared.form.Heading.{Heading}
 use Rattle.sheetfile.specs.Layout.{Row, entries_in, entry_bytes, heading_bytes, row_bytes}
-use Rattle.sheetfile.specs.Tables.{over}
+use Rattle.numbers.specs.Writing.{over}
 use Rattle.sheetfile.specs.Writing.{Writes, nonzero, nonzero_bytes}
 use Rattle.sheetfile.proofs.Bounds.{HeadingIn}
 use Rattle.sheetfile.proofs.Overs.{over_none, over-over}

@@ -9,7 +9,7 @@ use Rattle.sources.specs.declared.form.Entry.{Entry}
 use Rattle.sources.specs.declared.form.Heading.{Heading}
 use Rattle.sheetfile.specs.Layout.{LongEnough, SheetFile}
 use Rattle.sheetfile.specs.Reading.{loaded}
-use Rattle.sheetfile.specs.Tables.{over}
+use Rattle.numbers.specs.Writing.{over}
 use Rattle.sheetfile.specs.Writing.{without_zeros}
 
 -- A load accepts exactly the sheet files for which the tables are long enough. The answer is then their heading, and the

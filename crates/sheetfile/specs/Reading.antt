@@ -1,6 +1,8 @@
 -- What comes of reading any bytes: a heading and rows, or the first refusal with its place.
 -- Each part is read from a place on, and gives what is read and the place behind it.
-use Rattle.std.specs.Prelude.{ℕ, zero, suc, ◌+◌, ◌^◌, cond, ◌&&◌, List, [], ◌∷◌, length, Ok, Err, Result, ◌==◌, nat_le, nat_lt}
+use Rattle.std.specs.Prelude.{ℕ, zero, suc, ◌+◌, ◌^◌, Bool, true, cond, ◌&&◌, List, [], ◌∷◌, length, Ok, Err, Result, ◌==◌, nat_le, nat_lt}
+use Rattle.std.specs.declared.ops.Bound.{Bound}
+use Rattle.std.specs.declared.ops.Bound.TheVariants.{Included, Excluded, Unbounded}
 use Rattle.refusals.specs.Faults.{fault_at, fault_of}
 use Rattle.refusals.specs.declared.Fault.{Fault}
 use Rattle.refusals.specs.declared.Refusal.TheVariants.{BytesFollow, CountsOutside, JobOutOfOrder, TooShort, TotalDiffers, WorthOutside}
@@ -10,9 +12,27 @@ use Rattle.sources.specs.declared.form.Heading.{Heading}
 use Rattle.sheetfile.specs.Layout.{Row, entries_in, meaning_of}
 use Rattle.sheetfile.specs.Steps.{and_then, prefixed, room_for}
 
+-- A number is not below the start of a range, and not past its end.
+abbrev pub from_start : Bound ℕ → ℕ → Bool
+from_start (Included low) n = nat_le low n
+from_start (Excluded low) n = nat_lt low n
+from_start Unbounded n = true
+
+abbrev pub up_to_end : Bound ℕ → ℕ → Bool
+up_to_end (Included high) n = nat_le n high
+up_to_end (Excluded high) n = nat_lt n high
+up_to_end Unbounded n = true
+
+abbrev pub bounded_by : Bound ℕ → Bound ℕ → ℕ → Bool
+bounded_by start end n = from_start start n && up_to_end end n
+
+-- A number that passes a test; one that does not is refused with a fault.
+abbrev pub number_from : List ℕ → (ℕ → Bool) → Fault → ℕ → Result (ℕ × ℕ) Fault
+number_from bs test fault at = and_then (read_at bs at) (λ n. cond (test n.0) (Ok n) (Err fault))
+
 -- A number of the heading, from low up to high.
 abbrev pub count_from : List ℕ → ℕ → ℕ → ℕ → Result (ℕ × ℕ) Fault
-count_from bs low high at = and_then (read_at bs at) (λ n. cond (nat_le low n.0 && nat_le n.0 high) (Ok n) (Err (fault_of CountsOutside)))
+count_from bs low high at = number_from bs (λ n. nat_le low n && nat_le n high) (fault_of CountsOutside) at
 
 -- The heading: each number is checked as it is read.
 abbrev pub heading_from : List ℕ → ℕ → Result (Heading × ℕ) Fault
@@ -24,11 +44,11 @@ heading_from bs at =
 
 -- A job, at least low and below the number of jobs.
 abbrev pub job_from : List ℕ → Heading → ℕ → ℕ → Result (ℕ × ℕ) Fault
-job_from bs h low at = and_then (read_at bs at) (λ j. cond (nat_le low j.0 && nat_lt j.0 h.jobs) (Ok j) (Err (fault_at JobOutOfOrder at)))
+job_from bs h low at = number_from bs (λ j. nat_le low j && nat_lt j h.jobs) (fault_at JobOutOfOrder at) at
 
 -- A worth, from 1 up to the ceiling.
 abbrev pub worth_from : List ℕ → Heading → ℕ → Result (ℕ × ℕ) Fault
-worth_from bs h at = and_then (read_at bs at) (λ w. cond (nat_le 1 w.0 && nat_le w.0 h.ceiling) (Ok w) (Err (fault_at WorthOutside at)))
+worth_from bs h at = number_from bs (λ w. nat_le 1 w && nat_le w h.ceiling) (fault_at WorthOutside at) at
 
 abbrev pub entry_from : List ℕ → Heading → ℕ → ℕ → Result ((ℕ × ℕ) × ℕ) Fault
 entry_from bs h low at =
@@ -46,8 +66,12 @@ unfoldable pub row_from : List ℕ → Heading → ℕ → Result (Row × ℕ) F
 row_from bs h at = and_then (read_at bs at) (λ n. entries_from bs h n.0 0 n.1)
 
 -- The heading, for a table of so many starts: there is one for each carrier, and one more.
+abbrev pub heading_at : List ℕ → ℕ → ℕ → Result (Heading × ℕ) Fault
+heading_at bs starts at = and_then (heading_from bs at) (λ h. room_for (fault_of TooShort) (h.0.carriers + 1) starts h)
+
+-- The same at the beginning of a file.
 abbrev pub heading_in : List ℕ → ℕ → Result (Heading × ℕ) Fault
-heading_in bs starts = and_then (heading_from bs 0) (λ h. room_for (fault_of TooShort) (h.0.carriers + 1) starts h)
+heading_in bs starts = heading_at bs starts 0
 
 -- A row after so many entries, for a table of so many in all.
 abbrev pub row_in : List ℕ → Heading → ℕ → ℕ → ℕ → Result (Row × ℕ) Fault

@@ -9,7 +9,7 @@ use Rattle.sources.specs.declared.form.Heading.{Heading}
 use Rattle.sheetfile.specs.Layout.{Row}
 use Rattle.sheetfile.specs.Reading.{closed_at, row_in}
 use Rattle.sheetfile.specs.Steps.{and_then, room_for}
-use Rattle.sheetfile.specs.Tables.{over}
+use Rattle.numbers.specs.Writing.{over}
 use Rattle.sheetfile.specs.declared.loader.Bare.{Bare}
 use Rattle.sheetfile.specs.declared.loader.Closed.{Closed}
 use Rattle.sheetfile.specs.declared.loader.Headed.{Headed}
@@ -20,7 +20,7 @@ use Rattle.sheetfile.specs.declared.loader.Refused.{Refused}
 -- A loader that has read a heading and no row yet, or the bare loader as it was, with the refusal.
 abbrev pub headed_by : Bare → Result (Heading × ℕ) Fault → Result Headed (Refused Bare)
 headed_by l (Err e) = Err (record { loader = l; fault = e })
-headed_by l (Ok (h, at)) = Ok (record { bytes = l.bytes; heading = h; at = at; rows = 0; used = 0 })
+headed_by l (Ok (h, at)) = Ok (record { reader = record { bytes = l.bytes; at = at }; heading = h; rows = 0; used = 0 })
 
 -- ---- A row is read by a headed loader.
 
@@ -29,12 +29,12 @@ headed_by l (Ok (h, at)) = Ok (record { bytes = l.bytes; heading = h; at = at; r
 abbrev pub next_row : Headed → ℕ → ℕ → Result (Row × ℕ) Fault
 next_row l starts room =
     cond (nat_lt l.rows l.heading.carriers)
-    (and_then (row_in l.bytes.now l.heading room l.used l.at) (λ r. room_for (fault_of TooShort) (l.rows + 2) starts r))
+    (and_then (row_in l.reader.bytes.now l.heading room l.used l.reader.at) (λ r. room_for (fault_of TooShort) (l.rows + 2) starts r))
     (Err (fault_of NoRowLeft))
 
 -- The loader behind a row.
 abbrev pub after_row : Headed → Row × ℕ → Headed
-after_row l r = record { bytes = l.bytes; heading = l.heading; at = r.1; rows = l.rows + 1; used = l.used + length r.0 }
+after_row l r = record { reader = record { bytes = l.reader.bytes; at = r.1 }; heading = l.heading; rows = l.rows + 1; used = l.used + length r.0 }
 
 -- The tables after a row: the place where it ends is the next start, and its entries follow those before it.
 abbrev pub starts_after_row : Headed → List ℕ → Row × ℕ → List ℕ
@@ -47,7 +47,7 @@ entries_after_row l entries r = over entries l.used (map entry_of r.0)
 
 -- 8 before any byte if announced rows are missing; then what the closing total tells.
 abbrev pub closing : Headed → Result (Unit {0}) Fault
-closing l = cond (nat_lt l.rows l.heading.carriers) (Err (fault_of RowsMissing)) (closed_at l.bytes.now l.used l.at)
+closing l = cond (nat_lt l.rows l.heading.carriers) (Err (fault_of RowsMissing)) (closed_at l.reader.bytes.now l.used l.reader.at)
 
 -- A closed loader with the heading, or the headed loader as it was, with the refusal.
 abbrev pub closed_by : Headed → Result (Unit {0}) Fault → Result Closed (Refused Headed)

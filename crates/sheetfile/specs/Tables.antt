@@ -1,6 +1,7 @@
 -- What the tables hold after a load.
-use Rattle.std.specs.Prelude.{◌≡◌, ℕ, ◌+◌, List, ◌++◌, map, length, take, drop, Ok, Err, Result}
+use Rattle.std.specs.Prelude.{◌≡◌, ℕ, List, map, length, take, Ok, Err, Result}
 use Rattle.refusals.specs.declared.Fault.{Fault}
+use Rattle.numbers.specs.Writing.{over}
 use Rattle.sources.specs.Meaning.{Meaning}
 use Rattle.sources.specs.Tables.{entries_of, entry_of, heading_of, starts_of}
 use Rattle.sources.specs.declared.form.Entry.{Entry}
@@ -8,10 +9,6 @@ use Rattle.sources.specs.declared.form.Heading.{Heading}
 use Rattle.sheetfile.specs.Layout.{Row}
 use Rattle.sheetfile.specs.Reading.{loaded}
 use Rattle.sheetfile.specs.Steps.{updated}
-
--- A list with others in the stead of its elements from a place on.
-abbrev pub over : {A : Type 0} → List A → ℕ → List A → List A
-over xs at ys = take at xs ++ (ys ++ drop (at + length ys) xs)
 
 -- The heading alone of what is loaded.
 abbrev pub heading_answer : Result Meaning Fault → Result Heading Fault

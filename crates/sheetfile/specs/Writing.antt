@@ -12,7 +12,7 @@ use Rattle.sources.specs.declared.form.Heading.{Heading}
 use Rattle.sheetfile.specs.Layout.{Row, entry_bytes, file_of}
 use Rattle.sheetfile.specs.Reading.{loaded}
 use Rattle.sheetfile.specs.Steps.{and_then, room_for, updated}
-use Rattle.sheetfile.specs.Tables.{over}
+use Rattle.numbers.specs.Writing.{over}
 
 -- The entries of a row that have a worth above 0.
 abbrev pub nonzero : Row → Row

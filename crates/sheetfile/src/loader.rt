@@ -1,11 +1,12 @@
 // A loader that passes through three states, each a type of its own: bare, headed, closed. The tables are lent to each call.
 ghost use Rattle.std.specs.Prelude.{◌≡◌, length, slice_set};
+ghost use Rattle.sheetfile.specs.Readers.{value_of};
 ghost use Rattle.sheetfile.specs.Reading.{heading_in};
 ghost use Rattle.sheetfile.specs.States.{after_row, closed_by, closing, entries_after_row, headed_by, next_row, starts_after_row};
 ghost use Rattle.sheetfile.specs.Steps.{updated, without_value};
 ghost use Rattle.sheetfile.specs.Tables.{row_count};
 
-use crate::parts::{heading_in, row_at, row_in, total_at};
+use crate::parts::Reader;
 use refusals::{Fault, Refusal};
 use sources::form::{Entry, Heading};
 
@@ -16,18 +17,26 @@ pub struct Refused<L> {
     pub fault: Fault,
 }
 
+// What was refused, without the loader.
+impl<L: Drop> From<Refused<L>> for Fault {
+    ghost from_gives = { λ r f. f ≡ r.fault };
+
+    fn from(refused: Refused<L>) -> Fault {
+        refused.fault
+    }
+}
+
 // No byte is read yet.
 #[derive(Drop)]
 pub struct Bare<'a> {
     bytes: &'a [u8],
 }
 
-// The heading is read, and so many rows with so many entries; the rest begins at a place.
+// The heading is read, and so many rows with so many entries; the reader stands behind them.
 #[derive(Drop)]
 pub struct Headed<'a> {
-    bytes: &'a [u8],
+    reader: Reader<'a>,
     heading: Heading,
-    at: usize,
     rows: usize,
     used: usize,
 }
@@ -51,18 +60,18 @@ impl<'a> Bare<'a> {
         ensures answer { result ≡ headed_by self.entry (heading_in self.entry.bytes.now (length starts.old)) }
         ensures starts { starts.new ≡ updated (heading_in self.entry.bytes.now (length starts.old)) starts.old (λ _. slice_set starts.old 0 0) }
     {
-        match heading_in(self.bytes, starts.len()) {
+        let mut reader = Reader::new(self.bytes);
+        // By match: the closure of a map_err moves the loader, and would need a contract of its own.
+        match reader.heading(starts.len()) {
             Err(fault) => Err(Refused {
                 loader: self,
                 fault,
             }),
-            Ok((heading, at)) => {
+            Ok(heading) => {
                 starts[0] = 0;
-                let Bare { bytes } = self;
                 Ok(Headed {
-                    bytes,
+                    reader,
                     heading,
-                    at,
                     rows: 0,
                     used: 0,
                 })
@@ -72,18 +81,19 @@ impl<'a> Bare<'a> {
 }
 
 impl<'a> Headed<'a> {
-    // How many entries the next row has, and the place behind it, if tables of such lengths can take it.
-    fn next_row(&self, starts: usize, room: usize) -> Result<(usize, usize), Fault>
-        ensures { result ≡ row_count (next_row self.now starts room) }
+    // How many entries the next row has, if tables of such lengths can take it.
+    fn next_row(&self, starts: usize, room: usize) -> Result<usize, Fault>
+        ensures { result ≡ value_of (row_count (next_row self.now starts room)) }
     {
         if self.rows >= self.heading.carriers {
             return Err(Fault::bare(Refusal::NoRowLeft));
         }
-        let (count, next) = row_in(self.bytes, self.heading, room, self.used, self.at)?;
+        let mut ahead = self.reader;
+        let count = ahead.row_in(self.heading, room, self.used)?;
         if starts <= self.rows + 1 {
             return Err(Fault::bare(Refusal::TooShort));
         }
-        Ok((count, next))
+        Ok(count)
     }
 
     // Reads the next row, and writes its entries and the place where it ends, which is the next start.
@@ -93,23 +103,13 @@ impl<'a> Headed<'a> {
         ensures starts { starts.new ≡ updated (next_row self.old (length starts.old) (length entries.old)) starts.old (starts_after_row self.old starts.old) }
         ensures entries { entries.new ≡ updated (next_row self.old (length starts.old) (length entries.old)) entries.old (entries_after_row self.old entries.old) }
     {
-        match self.next_row(starts.len(), entries.len()) {
-            Err(fault) => Err(fault),
-            Ok((count, next)) => {
-                let end = self.used + count;
-                let _ = row_at(
-                    self.bytes,
-                    self.heading,
-                    self.at,
-                    &mut entries[self.used..end],
-                );
-                starts[self.rows + 1] = end;
-                self.at = next;
-                self.rows += 1;
-                self.used = end;
-                Ok(())
-            }
-        }
+        let count = self.next_row(starts.len(), entries.len())?;
+        let end = self.used + count;
+        self.reader.row(self.heading, &mut entries[self.used..end])?;
+        starts[self.rows + 1] = end;
+        self.rows += 1;
+        self.used = end;
+        Ok(())
     }
 
     // Ends the reading, if every row is read and the total closes the file.
@@ -122,7 +122,8 @@ impl<'a> Headed<'a> {
                 fault: Fault::bare(Refusal::RowsMissing),
             });
         }
-        match total_at(self.bytes, self.used, self.at) {
+        // By match, as in read_heading.
+        match self.reader.total(self.used) {
             Err(fault) => Err(Refused {
                 loader: self,
                 fault,

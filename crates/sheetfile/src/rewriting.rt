@@ -21,10 +21,8 @@ fn write_tables<'a>(
     ensures after { out.new ≡ out_after result out.old (written (sheet_of heading starts.now entries.now)) }
 {
     let mut sheet = Sheet::new();
-    match sheet.fill(heading, starts, entries) {
-        Err(refusal) => Err(refusal),
-        Ok(()) => write(&sheet, out),
-    }
+    sheet.fill(heading, starts, entries)?;
+    write(&sheet, out)
 }
 
 // Loads a file into the tables and writes it again: what is accepted comes out as the same bytes.
@@ -40,8 +38,6 @@ pub fn rewrite(
     ensures entries { entries.new ≡ entries_after bytes.now (length starts.old) entries.old }
 {
     let heading = load(bytes, starts, entries)?;
-    match write_tables(heading, &starts[..heading.carriers + 1], entries, out) {
-        Ok(len) => Ok(len),
-        Err(refusal) => Err(Fault::bare(refusal)),
-    }
+    let len = write_tables(heading, &starts[..heading.carriers + 1], entries, out)?;
+    Ok(len)
 }

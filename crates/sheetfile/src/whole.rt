@@ -8,8 +8,9 @@ ghost use Rattle.sheetfile.specs.Tables.{entries_after, heading_answer, starts_a
 ghost use Rattle.sources.specs.OfSheet.{sheet_meaning};
 
 use crate::loader::Bare;
-use crate::parts::{heading_in, row_in, total_at};
+use crate::parts::Reader;
 use refusals::{Fault, Refusal};
+use sources::checks::MOST_CARRIERS;
 use sources::form::{Entry, Heading};
 use sources::sheet::Sheet;
 
@@ -20,20 +21,20 @@ pub const MOST_BYTES: usize = 32768;
 pub const MOST_ENTRIES: usize = 4096;
 
 // The most row starts: one for each carrier, and one more.
-pub const MOST_STARTS: usize = 129;
+pub const MOST_STARTS: usize = MOST_CARRIERS + 1;
 
 // Whether a file loads into tables of such lengths; no table is written.
 fn survey(bytes: &[u8], starts: usize, room: usize) -> Result<Heading, Fault>
     ensures { result ≡ heading_answer (loaded bytes.now starts room) }
 {
-    let (heading, mut at) = heading_in(bytes, starts)?;
+    let mut reader = Reader::new(bytes);
+    let heading = reader.heading(starts)?;
     let mut used = 0;
     for _i in 0..heading.carriers {
-        let (count, next) = row_in(bytes, heading, room, used, at)?;
+        let count = reader.row_in(heading, room, used)?;
         used += count;
-        at = next;
     }
-    total_at(bytes, used, at)?;
+    reader.total(used)?;
     Ok(heading)
 }
 
@@ -45,17 +46,11 @@ pub fn load(bytes: &[u8], starts: &mut [usize], entries: &mut [Entry]) -> Result
     ensures exact { LoadsExactly bytes.now starts.old entries.old result starts.new entries.new }
 {
     let heading = survey(bytes, starts.len(), entries.len())?;
-    let mut loader = match Bare::new(bytes).read_heading(starts) {
-        Ok(headed) => headed,
-        Err(back) => return Err(back.fault),
-    };
+    let mut loader = Bare::new(bytes).read_heading(starts)?;
     for _i in 0..heading.carriers {
         loader.read_row(starts, entries)?;
     }
-    match loader.close() {
-        Ok(closed) => Ok(closed.heading()),
-        Err(back) => Err(back.fault),
-    }
+    Ok(loader.close()?.heading())
 }
 
 // Loads a whole file into the tables, and fills the sheet from them. Only the load can be refused, and then the sheet
@@ -71,10 +66,8 @@ pub fn load_sheet<'a>(
     ensures file { OnOk result (SheetFile bytes.now (sheet_meaning sheet.new)) }
 {
     let heading = load(bytes, starts, entries)?;
-    match sheet.fill(heading, &starts[..heading.carriers + 1], entries) {
-        Ok(()) => Ok(()),
-        Err(refusal) => Err(Fault::bare(refusal)),
-    }
+    sheet.fill(heading, &starts[..heading.carriers + 1], entries)?;
+    Ok(())
 }
 
 // Loads a file of at most 32,768 bytes into tables for 128 carriers and 4,096 entries, and fills the sheet from them. A
