@@ -1,5 +1,5 @@
 -- What the bytes of a number are, group by group, and how many there are.
-use Rattle.std.proofs.Common.{◌≡◌, ℕ, zero, suc, ◌+◌, ◌/◌, ◌%◌, ◌^◌, ◌<◌, ◌≤◌, [], ◌∷◌, length, sym, ap, ◌∙◌, ⊎_elim, arith}
+use Rattle.std.proofs.Common.{◌≡◌, ℕ, zero, suc, ◌+◌, ◌*◌, ◌/◌, ◌%◌, ◌^◌, ◌<◌, ◌≤◌, max, [], ◌∷◌, length, sym, ap, ◌∙◌, ⊎_elim, arith}
 use Rattle.std.proofs.lemmas.Bool.{cases_lt, lt-ltb, le-ltb}
 use Rattle.numbers.specs.Groups.{groups, encoded}
 use Rattle.numbers.specs.Laws.{Sized}
@@ -61,3 +61,17 @@ encoded_below (suc k) n few =
 
 pub sized : (n : ℕ) → Sized n
 sized n = record { some = encoded_some n; few = encoded_few 5 n; small = encoded_below 6 n }
+
+-- how many groups there are, from the powers of 128 around a number
+not_fewer : (k n : ℕ) → 128 ^ k ≤ max n 1 → k < length (encoded n)
+not_fewer zero n low = omega (arith, encoded_some n)
+not_fewer (suc k) n low =
+    ⊎_elim
+    (λ few. absurd (omega (arith, pow_pos k, encoded_below (suc k) n (omega arith))))
+    (λ many. omega arith)
+    (cases_lt (length (encoded n)) (suc (suc k)))
+
+pub len_by_powers : (k n m : ℕ) → m ≡ max n 1 → 128 ^ k ≤ m → m < 128 * 128 ^ k → k + 1 ≡ length (encoded n)
+len_by_powers k n m is low high =
+    let few = encoded_few k n (omega arith) in
+    omega (arith, few, not_fewer k n (omega arith))

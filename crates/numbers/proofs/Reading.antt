@@ -1,7 +1,7 @@
 -- What reading takes: the bytes of a number, with anything behind them, and nothing else.
-use Rattle.std.proofs.Common.{◌≡◌, ℕ, zero, suc, ◌+◌, ◌-◌, ◌*◌, ◌/◌, ◌%◌, ◌^◌, ◌<◌, ◌≤◌, true, false, cond, ◌&&◌, eqb, ltb, List, [], ◌∷◌, ◌++◌, length, get_or, drop, Ok, Err, Result, sym, refl, ap, ◌∙◌, ⊎_elim, pow-suc, add-one, arith}
+use Rattle.std.proofs.Common.{◌≡◌, ℕ, zero, suc, ◌+◌, ◌-◌, ◌*◌, ◌/◌, ◌%◌, ◌^◌, ◌<◌, ◌≤◌, true, false, cond, ◌&&◌, eqb, ltb, List, [], ◌∷◌, ◌++◌, length, get_or, take, drop, Ok, Err, Result, sym, refl, ap, ◌∙◌, ⊎_elim, pow-suc, add-one, arith}
 use native.Mathlib.Nat.{pow-le-pow_right}
-use Rattle.std.proofs.lemmas.List.{drop_all, drop_more}
+use Rattle.std.proofs.lemmas.List.{drop_all, drop_more, get_or-take, length-take}
 use Rattle.std.proofs.lemmas.Bool.{cases_lt, cases_eq, lt-ltb, le-ltb, eq-eqb, ne_eqb, and_from, and_right}
 use Rattle.std.specs.List.{AllByRecursion}
 use Rattle.refusals.specs.declared.Refusal.{Refusal}
@@ -124,20 +124,36 @@ after_more k v b (Ok (m, left)) large =
 pub pow_le : (k : ℕ) → k ≤ 6 → 128 ^ k ≤ 2 ^ 42
 pow_le k small = pow-le-pow_right {n = 128} (omega arith) {i = k} {j = 6} small
 
--- what is read at the place i, where at most six groups are read and k of them were
-module _ (bytes : List ℕ) (i k : ℕ) (few : k < 6) where
-  left : 6 - k ≡ suc (5 - k)
-  left = omega arith
+-- what is read of the rest behind k groups, where the groups are the bytes at a place, and at most six
+module _ (bytes groups : List ℕ) (at : ℕ) (are : groups ≡ take 6 (drop at bytes)) where
+  pub groups_few : length groups ≤ 6
+  groups_few = omega (arith, ap length are, length-take 6 (drop at bytes))
 
-  pub at_end : length bytes ≤ i → decoded_in (6 - k) (drop i bytes) ≡ Err NumberCut
-  unfolding decoded_in
-  at_end past = rw (drop_all i bytes past, left)
+  module _ (k : ℕ) (few : k < 6) where
+    left : 6 - k ≡ suc (5 - k)
+    left = omega arith
 
-  module _ (inside : i < length bytes) where
-    pub at_last : get_or bytes i 0 < 128 → decoded_in (6 - k) (drop i bytes) ≡ Ok (get_or bytes i 0, drop (i + 1) bytes)
-    at_last small = rw (drop_more bytes i 0 inside, left) (decoded_last (5 - k) (get_or bytes i 0) (drop (i + 1) bytes) small)
+    pub at_end : length groups ≤ k → decoded_in (6 - k) (drop k (drop at bytes)) ≡ Err NumberCut
+    unfolding decoded_in
+    at_end past =
+        let all : length (drop at bytes) ≤ k = omega (arith, ap length are, length-take 6 (drop at bytes)) in
+        rw (drop_all k (drop at bytes) all, left)
 
-    pub at_more : 128 ≤ get_or bytes i 0 → decoded_in (6 - k) (drop i bytes) ≡ before (get_or bytes i 0) (decoded_in (6 - (k + 1)) (drop (i + 1) bytes))
-    at_more large =
-        let e : 6 - (k + 1) ≡ 5 - k = omega arith in
-        rw (e, drop_more bytes i 0 inside, left) (decoded_more (5 - k) (get_or bytes i 0) (drop (i + 1) bytes) large)
+  module _ (k : ℕ) (inside : k < length groups) where
+    pub few : k < 6
+    few = omega (arith, groups_few)
+
+    pub group_inside : k < length (drop at bytes)
+    group_inside = omega (arith, ap length are, length-take 6 (drop at bytes))
+
+    module _ (b : ℕ) (is : b ≡ get_or groups k 0) where
+      group_is : b ≡ get_or (drop at bytes) k 0
+      group_is = is ∙ ap (λ gs. get_or gs k 0) are ∙ get_or-take 6 (drop at bytes) k 0 few
+
+      pub at_last : b < 128 → decoded_in (6 - k) (drop k (drop at bytes)) ≡ Ok (b, drop (k + 1) (drop at bytes))
+      at_last small = rw (drop_more (drop at bytes) k 0 group_inside, ← group_is, left k few) (decoded_last (5 - k) b (drop (k + 1) (drop at bytes)) small)
+
+      pub at_more : 128 ≤ b → decoded_in (6 - k) (drop k (drop at bytes)) ≡ before b (decoded_in (6 - (k + 1)) (drop (k + 1) (drop at bytes)))
+      at_more large =
+          let e : 6 - (k + 1) ≡ 5 - k = omega arith in
+          rw (e, drop_more (drop at bytes) k 0 group_inside, ← group_is, left k few) (decoded_more (5 - k) b (drop (k + 1) (drop at bytes)) large)

@@ -1,13 +1,36 @@
--- Lists that are overwritten one place after the other, and a number that is written and read again.
-use Rattle.std.proofs.Common.{◌≡◌, ℕ, ◌+◌, ◌<◌, List, [], ◌∷◌, ◌++◌, length, take, drop, set, ap, ◌∙◌, arith}
-use Rattle.std.proofs.lemmas.List.{drop-drop, drop-set-lt, take_more_set, append_assoc}
+-- The bytes of a number as they are written, one place after the other.
+use Rattle.std.proofs.Common.{◌≡◌, ℕ, ◌+◌, ◌/◌, ◌%◌, ◌<◌, ◌≤◌, List, [], ◌∷◌, ◌++◌, length, take, set, sym, refl, ap, ◌∙◌, arith}
+use Rattle.std.proofs.lemmas.List.{append_assoc, append-nil, length-append, length-set, length-take-le, take_more_set}
+use Rattle.numbers.specs.Groups.{encoded}
+use Rattle.numbers.proofs.Groups.{encoded_small, encoded_large, encoded_some}
 
--- one more written in front of what is still to come
-pub write_more : (xs zs : List ℕ) (i b : ℕ) → i < length xs → take (i + 1) (set xs i b) ++ zs ≡ take i xs ++ b ∷ zs
-write_more xs zs i b inside = ap (λ ys. ys ++ zs) (take_more_set xs i b inside) ∙ append_assoc (take i xs) (b ∷ []) zs
+-- the groups written so far and those still to come are those of the number
+pub record Written (places : List ℕ) (i rest n : ℕ) : Type 0 where
+  pub more : i < length places → take i places ++ encoded rest ≡ encoded n
+  pub all : i ≡ length places → take i places ≡ encoded n
 
--- and what lies behind it is as it was
-pub drop_next : (xs ys : List ℕ) (i b : ℕ) → drop i xs ≡ drop i ys → drop (i + 1) (set xs i b) ≡ drop (i + 1) ys
-drop_next xs ys i b same =
-    let far : i < i + 1 = omega arith in
-    rw (drop-set-lt (i + 1) xs i b far, ← drop-drop 1 i xs, ← drop-drop 1 i ys) (ap (drop 1) same)
+module _ (places : List ℕ) (i rest n : ℕ) (room : length places ≡ length (encoded n)) (inside : i < length places) (so_far : Written places i rest n) where
+  used : length (encoded n) ≡ i + length (encoded rest)
+  used = omega (arith, sym (ap length (so_far.more inside)) ∙ length-append (take i places) (encoded rest), length-take-le i places (omega arith))
+
+  -- a group written in front of the others
+  one_more : (b : ℕ) (left : List ℕ) → encoded rest ≡ b ∷ left → take (i + 1) (set places i b) ++ left ≡ encoded n
+  one_more b left are =
+      ap (λ ys. ys ++ left) (take_more_set places i b inside) ∙ append_assoc (take i places) (b ∷ []) left
+      ∙ ap (λ zs. take i places ++ zs) (sym are) ∙ so_far.more inside
+
+  pub wrote_last : (b : ℕ) → b ≡ rest → rest < 128 → Written (set places i b) (i + 1) (rest / 128) n
+  wrote_last b is small = record {
+    more = λ l. absurd (omega (arith, l, length-set places i b, used, ap length (encoded_small rest small)));
+    all = λ _. sym (append-nil (take (i + 1) (set places i b))) ∙ one_more b [] (rw is (encoded_small rest small));
+  }
+
+  pub wrote_more : (b : ℕ) → b ≡ 128 + rest % 128 → 128 ≤ rest → Written (set places i b) (i + 1) (rest / 128) n
+  wrote_more b is large = record {
+    more = λ _. one_more b (encoded (rest / 128)) (rw is (encoded_large rest large));
+    all = λ e. absurd (omega (arith, e, length-set places i b, used, ap length (encoded_large rest large), encoded_some (rest / 128)));
+  }
+
+-- nothing is written at first, and everything at last
+pub nothing_written : (places : List ℕ) (n : ℕ) → length places ≡ length (encoded n) → Written places 0 n n
+nothing_written places n room = record { more = λ _. refl; all = λ e. absurd (omega (arith, e, encoded_some n)) }

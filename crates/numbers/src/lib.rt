@@ -1,6 +1,6 @@
 #![tactic(auto)]
 
-ghost use Rattle.std.specs.Prelude.{◌≡◌, ℕ, ◌+◌, ◌^◌, ◌<◌, ◌≤◌, ◌&&◌, List, length, is_ok, IfOk, if◌then◌else◌, Ok, ◌==◌, nat_lt};
+ghost use Rattle.std.specs.Prelude.{◌≡◌, ℕ, ◌+◌, ◌^◌, ◌<◌, ◌≤◌, ◌&&◌, List, length, take, drop, is_ok, IfOk, if◌then◌else◌, Ok, ◌==◌, nat_lt};
 ghost use Rattle.numbers.specs.Groups.{encoded};
 ghost use Rattle.numbers.specs.Laws.{ReadsExactly, Sized};
 ghost use Rattle.numbers.specs.Reading.{read_at};
@@ -16,29 +16,36 @@ pub fn read_number(bytes: &[u8], at: usize) -> Result<(u64, usize), Fault>
     ensures value { result ≡ read_at bytes.now at }
     ensures exact { ReadsExactly bytes.now at result }
 {
-    let mut value: u64 = 0;
-    let mut scale: u64 = 1;
-    let mut i = at;
-    for k in 0..6u8 {
-        if i >= bytes.len() {
-            return Err(Fault::at(Refusal::NumberCut, at));
-        }
-        let group = bytes[i] as u64;
-        i += 1;
+    let groups = groups_from(bytes, at);
+    let mut value = 0;
+    let mut scale = 1;
+    for (k, &group) in groups.iter().enumerate() {
+        let group = u64::from(group);
         if group < 128 {
             if is_padded(k, group) {
                 return Err(Fault::at(Refusal::NumberPadded, at));
             }
-            return Ok((value + group * scale, i));
+            return Ok((value + group * scale, at + k + 1));
         }
         value += (group - 128) * scale;
         scale *= 128;
     }
+    if groups.len() < MOST_GROUPS {
+        return Err(Fault::at(Refusal::NumberCut, at));
+    }
     Err(Fault::at(Refusal::NumberTooLong, at))
 }
 
+// The bytes from a place on, and no more of them than a number may have.
+fn groups_from(bytes: &[u8], at: usize) -> &[u8]
+    ensures { result.now ≡ take 6 (drop at bytes.now) }
+{
+    let rest = bytes.get(at..).unwrap_or(&[]);
+    rest.get(..MOST_GROUPS).unwrap_or(rest)
+}
+
 // A number of several groups is not in its shortest form where its last group is zero.
-fn is_padded(groups_before: u8, last: u64) -> bool
+fn is_padded(groups_before: usize, last: u64) -> bool
     ensures { result ≡ (nat_lt 0 groups_before && last == 0) }
 {
     groups_before > 0 && last == 0
@@ -49,13 +56,7 @@ pub fn number_len(n: u64) -> usize
     ensures value { result ≡ length (encoded n) }
     ensures sized { Sized n }
 {
-    let mut rest = n;
-    let mut len = 1;
-    while rest >= 128 {
-        rest /= 128;
-        len += 1;
-    }
-    len
+    n.max(1).ilog(128) as usize + 1
 }
 
 // Writes a number from a place on, and gives the place behind it. Where it has more than six groups, or they do not
@@ -69,24 +70,24 @@ pub fn write_number(out: &mut [u8], at: usize, n: u64) -> Result<usize, Refusal>
     if len > MOST_GROUPS || at > out.len() || out.len() - at < len {
         return Err(Refusal::TooShort);
     }
-    Ok(put_groups(out, at, n))
+    put_groups(&mut out[at..at + len], n);
+    Ok(at + len)
 }
 
-// Writes the groups of a number from a place on, where they fit, and gives the place behind them.
-fn put_groups(out: &mut [u8], at: usize, n: u64) -> usize
-    requires { at + length (encoded n) ≤ length out.old }
-    ensures next { result ≡ at + length (encoded n) }
-    ensures written { out.new ≡ over out.old at (encoded n) }
+// Writes the groups of a number into as many places as it has.
+fn put_groups(places: &mut [u8], n: u64)
+    requires { length places.old ≡ length (encoded n) }
+    ensures { places.new ≡ encoded n }
 {
     let mut rest = n;
-    let mut i = at;
-    while rest >= 128 {
-        out[i] = (128 + rest % 128) as u8;
+    for place in places.iter_mut() {
+        *place = if rest < 128 {
+            rest as u8
+        } else {
+            (128 + rest % 128) as u8
+        };
         rest /= 128;
-        i += 1;
     }
-    out[i] = rest as u8;
-    i + 1
 }
 
 #[cfg(test)]

@@ -1,9 +1,9 @@
-use Rattle.std.proofs.Common.{◌≡◌, ◌+◌, ◌-◌, ◌^◌, ◌<◌, drop}
+use Rattle.std.proofs.Common.{◌≡◌, ◌-◌, ◌^◌, ◌<◌, drop}
 use Rattle.numbers.specs.Groups.{decoded_in}
 use Rattle.numbers.proofs.Reading.{after}
 use Rattle.numbers.proofs.read_number.Given as goal
 
 abbrev pub invariant-loop-k : goal.invariant-loop-k
 invariant-loop-k l =
-    (l.i ≡ l.at + l.k) × (l.scale ≡ 128 ^ l.k) × (l.value < l.scale)
-    × (decoded_in 6 (drop l.at l.bytes) ≡ after l.k l.value (decoded_in (6 - l.k) (drop l.i l.bytes)))
+    (l.scale ≡ 128 ^ l.k) × (l.value < l.scale)
+    × (decoded_in 6 (drop l.at l.bytes) ≡ after l.k l.value (decoded_in (6 - l.k) (drop l.k (drop l.at l.bytes))))
