@@ -1,6 +1,6 @@
 -- What the questions tell: the tables hold what the tally's lists hold.
 use Rattle.std.proofs.Common.{◌≡◌, ℕ, ◌^◌, ◌<◌, ◌≤◌, true, length, get_or, take, None, Ok, Err, sum_by, sym, refl, ap, ◌∙◌, subst, arith}
-use Rattle.std.proofs.lemmas.List.{get_or-take, length-take-le}
+use Rattle.std.proofs.lemmas.List.{get_or-take, get_or-map, length-take-le}
 use Rattle.std.proofs.ByRecursion.{All-from_get_or, sum_by_le}
 use Rattle.sources.specs.Meaning.{Meaning}
 use Rattle.refusals.specs.declared.Refusal.{Refusal}
@@ -10,6 +10,8 @@ use Rattle.auction.specs.declared.standing.Standing.TheVariants.{Waiting, Biddin
 use Rattle.auction.specs.Tally.{price_at, holder_at, standing_at, worth_served}
 use Rattle.auction.specs.Consistent.{StandingSound}
 use Rattle.auction.specs.Calls.{price_answer, holder_answer, standing_answer}
+use Rattle.hall.specs.Kept.{prices_of, holders_of}
+use Rattle.hall.specs.declared.books.Lot.{Lot}
 use Rattle.hall.specs.declared.books.Books.{Books}
 use Rattle.hall.specs.InBooks.{is_open, tally_in, tally_of}
 use Rattle.hall.proofs.Keeps.{kept_out}
@@ -18,37 +20,40 @@ use Rattle.hall.proofs.Calling.{below_parts, admitted_parts, refused_by, found_b
 use Rattle.hall.specs.Steps.{admitted_job, admitted}
 
 module _ (m : Meaning) (b : Books) (j : ℕ) where
-  job_below : is_open m b ≡ true → b.jobs ≡ m.jobs
+  job_below : is_open m b ≡ true → b.noted.jobs ≡ m.jobs
   job_below o = (open_parts m b o).2
 
-  carrier_below : is_open m b ≡ true → b.carriers ≡ m.carriers
+  carrier_below : is_open m b ≡ true → b.noted.carriers ≡ m.carriers
   carrier_below o = (open_parts m b o).1
 
-  pub price_refused : (e : Refusal) → Err e ≡ admitted_job m j b → Err e ≡ price_answer j m (tally_of m b)
-  price_refused e h = refused_by (price_answer j m) (λ t. Ok (price_at t j)) m.jobs NoSuchJob m j b refl (λ t. refl) b.jobs job_below e h
+  in_lots : Ok tt ≡ admitted_job m j b → j < length b.lots
+  in_lots h = omega (arith, (below_parts b.noted.jobs NoSuchJob m j b h).1, (consistent_in b).limits.few_jobs, (kept_out b.kept).lots_long)
 
-  pub price_told : Ok tt ≡ admitted_job m j b → Ok (get_or b.prices j 0) ≡ price_answer j m (tally_of m b)
-  price_told h =
-      sym (found_by (price_answer j m) (λ t. Ok (price_at t j)) m.jobs NoSuchJob m j b refl (λ t. refl) b.jobs job_below h ∙ ap Ok (get_or-take b.jobs b.prices j 0 (below_parts b.jobs NoSuchJob m j b h).1))
+  pub price_refused : (e : Refusal) → Err e ≡ admitted_job m j b → Err e ≡ price_answer j m (tally_of m b)
+  price_refused e h = refused_by (price_answer j m) (λ t. Ok (price_at t j)) m.jobs NoSuchJob m j b refl (λ t. refl) b.noted.jobs job_below e h
+
+  pub price_told : Ok tt ≡ admitted_job m j b → (d : Lot) → Ok (get_or b.lots j d).price ≡ price_answer j m (tally_of m b)
+  price_told h d =
+      sym (found_by (price_answer j m) (λ t. Ok (price_at t j)) m.jobs NoSuchJob m j b refl (λ t. refl) b.noted.jobs job_below h ∙ ap Ok (get_or-take b.noted.jobs (prices_of b.lots) j 0 (below_parts b.noted.jobs NoSuchJob m j b h).1 ∙ get_or-map (λ l. l.price) b.lots j d 0 (in_lots h)))
 
   pub holder_refused : (e : Refusal) → Err e ≡ admitted_job m j b → Err e ≡ holder_answer j m (tally_of m b)
-  holder_refused e h = refused_by (holder_answer j m) (λ t. Ok (holder_at t j)) m.jobs NoSuchJob m j b refl (λ t. refl) b.jobs job_below e h
+  holder_refused e h = refused_by (holder_answer j m) (λ t. Ok (holder_at t j)) m.jobs NoSuchJob m j b refl (λ t. refl) b.noted.jobs job_below e h
 
-  pub holder_told : Ok tt ≡ admitted_job m j b → Ok (get_or b.holders j None) ≡ holder_answer j m (tally_of m b)
-  holder_told h =
-      sym (found_by (holder_answer j m) (λ t. Ok (holder_at t j)) m.jobs NoSuchJob m j b refl (λ t. refl) b.jobs job_below h
-      ∙ ap Ok (get_or-take b.jobs b.holders j None (below_parts b.jobs NoSuchJob m j b h).1))
+  pub holder_told : Ok tt ≡ admitted_job m j b → (d : Lot) → Ok (get_or b.lots j d).holder ≡ holder_answer j m (tally_of m b)
+  holder_told h d =
+      sym (found_by (holder_answer j m) (λ t. Ok (holder_at t j)) m.jobs NoSuchJob m j b refl (λ t. refl) b.noted.jobs job_below h
+      ∙ ap Ok (get_or-take b.noted.jobs (holders_of b.lots) j None (below_parts b.noted.jobs NoSuchJob m j b h).1 ∙ get_or-map (λ l. l.holder) b.lots j d None (in_lots h)))
 
   pub standing_refused : (e : Refusal) → Err e ≡ admitted m j b → Err e ≡ standing_answer j m (tally_of m b)
-  standing_refused e h = refused_by (standing_answer j m) (λ t. Ok (standing_at t j)) m.carriers NoSuchCarrier m j b refl (λ t. refl) b.carriers carrier_below e h
+  standing_refused e h = refused_by (standing_answer j m) (λ t. Ok (standing_at t j)) m.carriers NoSuchCarrier m j b refl (λ t. refl) b.noted.carriers carrier_below e h
 
   pub standing_told : Ok tt ≡ admitted m j b → Ok (get_or b.standings j Waiting) ≡ standing_answer j m (tally_of m b)
   standing_told h =
-      sym (found_by (standing_answer j m) (λ t. Ok (standing_at t j)) m.carriers NoSuchCarrier m j b refl (λ t. refl) b.carriers carrier_below h
+      sym (found_by (standing_answer j m) (λ t. Ok (standing_at t j)) m.carriers NoSuchCarrier m j b refl (λ t. refl) b.noted.carriers carrier_below h
       ∙ ap Ok (standing_in b j (admitted_parts m j b h).1))
 
 pub known_job : (m : Meaning) (b : Books) (j : ℕ) → Ok tt ≡ admitted_job m j b → j < 256
-known_job m b j h = omega (arith, (below_parts b.jobs NoSuchJob m j b h).1, (consistent_in b).limits.few_jobs)
+known_job m b j h = omega (arith, (below_parts b.noted.jobs NoSuchJob m j b h).1, (consistent_in b).limits.few_jobs)
 
 pub known_carrier : (m : Meaning) (b : Books) (i : ℕ) → Ok tt ≡ admitted m i b → i < 128
 known_carrier m b i h = few_places b i (admitted_parts m i b h).1
@@ -62,10 +67,10 @@ worth_low jobs ceiling (Served h) c k = omega (arith, c, k)
 worth_low jobs ceiling Out c k = omega arith
 
 module _ (b : Books) where
-  long_enough : b.carriers ≤ length b.standings
+  long_enough : b.noted.carriers ≤ length b.standings
   long_enough = omega (arith, (consistent_in b).limits.few_carriers, (kept_out b.kept).standings_long)
 
-  pub worth_bound : (i : ℕ) → i ≤ b.carriers → sum_by worth_served (take i b.standings) ≤ 2 ^ 43
+  pub worth_bound : (i : ℕ) → i ≤ b.noted.carriers → sum_by worth_served (take i b.standings) ≤ 2 ^ 43
   worth_bound i l =
       let n = length-take-le i b.standings (omega (arith, l, long_enough)) in
       let a = sum_by_le worth_served (2 ^ 36) (take i b.standings) (All-from_get_or (λ s. worth_served s ≤ 2 ^ 36) (take i b.standings) Out (each n)) in
@@ -73,5 +78,5 @@ module _ (b : Books) where
     where
       each : length (take i b.standings) ≡ i → (k : ℕ) → k < length (take i b.standings) → worth_served (get_or (take i b.standings) k Out) ≤ 2 ^ 36
       each n k q =
-          subst (λ s. worth_served s ≤ 2 ^ 36) (get_or-take b.carriers b.standings k Out (omega (arith, n, q, l)) ∙ sym (get_or-take i b.standings k Out (omega (arith, n, q))))
-          (worth_low b.jobs b.ceiling (standing_at (tally_in b) k) (consistent_in b).limits.low_ceiling ((consistent_in b).sound k))
+          subst (λ s. worth_served s ≤ 2 ^ 36) (get_or-take b.noted.carriers b.standings k Out (omega (arith, n, q, l)) ∙ sym (get_or-take i b.standings k Out (omega (arith, n, q))))
+          (worth_low b.noted.jobs b.noted.ceiling (standing_at (tally_in b) k) (consistent_in b).limits.low_ceiling ((consistent_in b).sound k))

@@ -1,10 +1,10 @@
 -- What the calls of a run leave, where the books are open to the source.
 use Rattle.std.proofs.Common.{◌≡◌, ℕ, zero, suc, ◌+◌, ◌-◌, ◌<◌, ◌≤◌, Bool, true, false, cond, ◌&&◌, eqb, ltb, List, [], ◌∷◌, ◌++◌, length, get_or, take, Some, None, Ok, Err, Option, Result, sym, refl, ap, ◌∙◌, subst, ⊎_elim, arith}
 use Rattle.std.specs.Option.{option_to_list}
-use Rattle.std.specs.List.{AllByRecursion}
 use Rattle.std.proofs.lemmas.List.{take_more, length-take-le}
 use Rattle.std.proofs.lemmas.Bool.{cases_Bool, and_parts, and_left, both_ways, eqb-true, eqb-false, ne_eqb, lt-ltb, cond-true, cond-false}
-use Rattle.sources.specs.Meaning.{Meaning, Sound, Rising, row_of}
+use Rattle.sources.specs.Meaning.{Meaning, Sound, row_of}
+use Rattle.sources.specs.Tables.{heading_of}
 use Rattle.refusals.specs.declared.Refusal.{Refusal}
 use Rattle.refusals.specs.declared.Refusal.TheVariants.{NeverStarted, DepthOutside}
 use Rattle.auction.specs.declared.standing.Act.TheVariants.{Summon, Look}
@@ -21,7 +21,7 @@ use Rattle.auction.specs.Consistent.{Consistent}
 use Rattle.auction.specs.Rules.{between, once, called, settled, settle_answer, settle_tally}
 use Rattle.auction.specs.Runs.{RunState, in_flight, looks_for, gathered, if_waiting, if_bidding, beginning, waits_after, joins_line, first_acts, step_by, one_step, many_steps, ending_of, since, report_of, run_report, Reports, run_answer, ran, run_tally}
 use Rattle.auction.specs.InOrder.{Ordered, Grown}
-use Rattle.sources.proofs.Reading.{row_known, row_rising}
+use Rattle.sources.proofs.Reading.{row_length}
 use Rattle.auction.proofs.Queues.{gathered_more, gathered_short}
 use Rattle.auction.proofs.Steps.{room_enough, ending_is, begins_ordered, step_ordered, steps_grow, idle_steps, run_reports}
 use Rattle.rings.specs.Held.{held}
@@ -30,18 +30,12 @@ use Rattle.hall.specs.declared.books.queues.Queues.{Queues}
 use Rattle.hall.specs.InBooks.{is_open, tally_in, tally_of}
 use Rattle.hall.specs.Ruled.{Ruled}
 use Rattle.hall.specs.RunSteps.{state_of, Became}
-use Rattle.hall.proofs.Tables.{open_tally, shut_tally, open_parts, consistent_in, renumbered}
+use Rattle.hall.proofs.Tables.{open_tally, shut_tally, open_parts, consistent_in, open_noted, renoted}
 
 -- ---- a row has no more entries than there are jobs
 
-rising_short : (low n : ℕ) (row : List (ℕ × ℕ)) → Rising low row → AllByRecursion (λ e. e.0 < n) row → low ≤ n → low + length row ≤ n
-rising_short low n [] r k h = omega arith
-rising_short low n (e ∷ row) r k h =
-    let a = rising_short (e.0 + 1) n row r.1 k.1 (omega (arith, k.0)) in omega (arith, a, r.0)
-
 pub few_entries : (m : Meaning) → Sound m → (b : Books) → is_open m b ≡ true → (i : ℕ) → length (row_of m i) ≤ 256
-few_entries m s b o i =
-    omega (arith, rising_short 0 m.jobs (row_of m i) (row_rising m s i) (row_known m s i) (omega arith), (open_parts m b o).2, (consistent_in b).limits.few_jobs)
+few_entries m s b o i = omega (arith, row_length m s i, (open_parts m b o).2, (consistent_in b).limits.few_jobs)
 
 -- ---- books that have a tally
 
@@ -56,7 +50,7 @@ after_call m old new f o e = ⊎_elim
     is = e ∙ ap (once f) (open_tally m old o)
 
 consistent_for : (m : Meaning) (b : Books) → is_open m b ≡ true → Consistent m.carriers m.jobs m.ceiling (tally_in b)
-consistent_for m b o = let p = open_parts m b o in renumbered _ _ _ _ _ _ (tally_in b) p.1 p.2 p.3 (consistent_in b)
+consistent_for m b o = renoted b.noted (heading_of m) (tally_in b) (open_noted m b o) (consistent_in b)
 
 -- ---- a step, as the rings and the books hold it
 
@@ -128,7 +122,7 @@ few_held m b q r = omega (arith, room_enough m (state_of b q 0) r, (consistent_i
 
 -- ---- gathering who waits and who bids
 
-pub few_standings : (b : Books) → length (take b.carriers b.standings) ≤ 128
+pub few_standings : (b : Books) → length (take b.noted.carriers b.standings) ≤ 128
 few_standings b = omega (arith, (consistent_in b).standings_sized, (consistent_in b).limits.few_carriers)
 
 module _ {X : Type 0} (f : ℕ → Standing → List X) (ss : List Standing) (i : ℕ) (l : i < length ss) where

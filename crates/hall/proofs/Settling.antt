@@ -1,7 +1,7 @@
 -- A settled bid: the verdict, what carrying it out leaves in the tables, and the tally after.
 use Rattle.std.proofs.Common.{◌≡◌, ℕ, ◌^◌, ◌<◌, ◌≤◌, true, cond, leb, List, length, get_or, take, set, pos, Some, None, Ok, Option, sym, refl, ap, ◌∙◌, subst, arith}
 use lib.Signed.{lt_z}
-use Rattle.std.proofs.lemmas.List.{length-set, get_or-take, set-get_or}
+use Rattle.std.proofs.lemmas.List.{map-set, length-set, get_or-take, set-get_or}
 use Rattle.std.proofs.lemmas.Bool.{cond_both}
 use Rattle.sources.specs.Meaning.{Meaning, row_of}
 use Rattle.auction.specs.declared.standing.Best.{Best}
@@ -19,11 +19,12 @@ use Rattle.auction.specs.Rules.{bid_by, once, taken, bids, called, freed, counte
 use Rattle.auction.proofs.Matching.{length-freed, holder_known}
 use Rattle.auction.proofs.Keeping.{ended_consistent, settle_stands}
 use Rattle.hall.specs.declared.books.Books.{Books}
-use Rattle.hall.specs.Kept.{Kept, tally_held}
+use Rattle.hall.specs.declared.books.Lot.{Lot}
+use Rattle.hall.specs.Kept.{Kept, tally_held, prices_of, holders_of}
 use Rattle.hall.specs.InBooks.{is_open, tally_in, tally_of}
 use Rattle.hall.specs.Steps.{Noted}
 use Rattle.hall.proofs.Keeps.{kept_out, kept_by}
-use Rattle.hall.proofs.Tables.{has_tally, same_tally, take_set_any, take-freed, open_tally, is_open_lem, open_parts, consistent_in, few_places, standing_in, stands_in}
+use Rattle.hall.proofs.Tables.{has_tally, same_tally, take_set_any, take-freed, open_tally, is_open_lem, open_parts, open_noted, consistent_in, few_places, standing_in, stands_in}
 use Rattle.hall.proofs.Calling.{bid_open, bid_in, bid_known, bid_given}
 
 -- ---- the verdict
@@ -65,58 +66,60 @@ won jobs ceiling step r prices holders (Some x) a k e =
 
 -- ---- carried out, over the books
 
-module _ (b : Books) (i : ℕ) (x : Bid) (v : Verdict) (known : i < b.carriers) (bidding : standing_at (tally_in b) i ≡ Bidding x) (ruled : v ≡ verdict_in (tally_in b) x) where
+module _ (b : Books) (i : ℕ) (x : Bid) (v : Verdict) (known : i < b.noted.carriers) (bidding : standing_at (tally_in b) i ≡ Bidding x) (ruled : v ≡ verdict_in (tally_in b) x) where
   abbrev worth : ℕ
   worth = best_worth x.best
 
-  sound_bid : BidSound b.jobs b.ceiling x.runner_up x.best
-  sound_bid = subst (StandingSound b.jobs b.ceiling) bidding ((consistent_in b).sound i)
+  sound_bid : BidSound b.noted.jobs b.noted.ceiling x.runner_up x.best
+  sound_bid = subst (StandingSound b.noted.jobs b.noted.ceiling) bidding ((consistent_in b).sound i)
 
-  consistent_after : (w : Verdict) → v ≡ w → Consistent b.carriers b.jobs b.ceiling (carried_out i worth w (tally_in b))
-  consistent_after w e = subst (λ z. Consistent b.carriers b.jobs b.ceiling (carried_out i worth z (tally_in b))) (sym ruled ∙ e)
-      (ended_consistent b.carriers b.jobs b.ceiling (tally_in b) (consistent_in b) i known x bidding)
+  consistent_after : (w : Verdict) → v ≡ w → Consistent b.noted.carriers b.noted.jobs b.noted.ceiling (carried_out i worth w (tally_in b))
+  consistent_after w e = subst (λ z. Consistent b.noted.carriers b.noted.jobs b.noted.ceiling (carried_out i worth z (tally_in b))) (sym ruled ∙ e)
+      (ended_consistent b.noted.carriers b.noted.jobs b.noted.ceiling (tally_in b) (consistent_in b) i known x bidding)
 
-  pub out_keeps : v ≡ GoesOut → Kept b.carriers b.jobs b.ceiling b.step b.lanes b.prices b.holders (set b.standings i Out) (counted_out b.counts)
+  pub out_keeps : v ≡ GoesOut → Kept b.noted b.step b.lanes b.lots (set b.standings i Out) (counted_out b.counts)
   out_keeps e =
       let k = kept_out b.kept in
-      kept_by (carried_out i worth GoesOut (tally_in b)) k.prices_long k.holders_long (length-set b.standings i Out ∙ k.standings_long)
+      kept_by (carried_out i worth GoesOut (tally_in b)) k.lots_long (length-set b.standings i Out ∙ k.standings_long)
       (stands_in b i Out (counted_out b.counts)) (consistent_after GoesOut e)
 
-  pub stale_keeps : v ≡ Stale → Kept b.carriers b.jobs b.ceiling b.step b.lanes b.prices b.holders (set b.standings i Waiting) (counted_stale b.counts)
+  pub stale_keeps : v ≡ Stale → Kept b.noted b.step b.lanes b.lots (set b.standings i Waiting) (counted_stale b.counts)
   stale_keeps e =
       let k = kept_out b.kept in
-      kept_by (carried_out i worth Stale (tally_in b)) k.prices_long k.holders_long (length-set b.standings i Waiting ∙ k.standings_long)
+      kept_by (carried_out i worth Stale (tally_in b)) k.lots_long (length-set b.standings i Waiting ∙ k.standings_long)
       (stands_in b i Waiting (counted_stale b.counts)) (consistent_after Stale e)
 
   module _ (a : Award) (e : v ≡ Awarded a) where
-    won_here : (a.job < b.jobs) × (holder_at (tally_in b) a.job ≡ a.displaced)
-    won_here = won b.jobs b.ceiling b.step x.runner_up (take b.jobs b.prices) (take b.jobs b.holders) x.best a sound_bid (sym ruled ∙ e)
+    won_here : (a.job < b.noted.jobs) × (holder_at (tally_in b) a.job ≡ a.displaced)
+    won_here = won b.noted.jobs b.noted.ceiling b.step x.runner_up (take b.noted.jobs (prices_of b.lots)) (take b.noted.jobs (holders_of b.lots)) x.best a sound_bid (sym ruled ∙ e)
 
     pub job_known : a.job < 256
     job_known = omega (arith, won_here.0, (consistent_in b).limits.few_jobs)
 
     pub former_known : (k : ℕ) → a.displaced ≡ Some k → k < 128
-    former_known k q = few_places b k (holder_known b.carriers b.jobs b.ceiling (tally_in b) (consistent_in b) a.job k (won_here.1 ∙ q))
+    former_known k q = few_places b k (holder_known b.noted.carriers b.noted.jobs b.noted.ceiling (tally_in b) (consistent_in b) a.job k (won_here.1 ∙ q))
+
+    abbrev lot : Lot
+    lot = record { price = a.price; holder = Some i }
 
     pub award_in : (ss : List Standing) (w : ℕ) → ss ≡ freed b.standings a.displaced → w ≡ worth →
-        tally_held b.carriers b.jobs b.step b.lanes (set b.prices a.job a.price) (set b.holders a.job (Some i))
-        (set ss i (Served (record { job = a.job; worth = w }))) (counted_award b.counts) ≡ carried_out i worth (Awarded a) (tally_in b)
+        tally_held b.noted b.step b.lanes (set b.lots a.job lot) (set ss i (Served (record { job = a.job; worth = w }))) (counted_award b.counts)
+        ≡ carried_out i worth (Awarded a) (tally_in b)
     award_in ss w f q =
         same_tally _ (carried_out i worth (Awarded a) (tally_in b)) refl refl
-        (take_set_any b.jobs b.prices a.job a.price)
-        (take_set_any b.jobs b.holders a.job (Some i))
-        (ap (λ zs. take b.carriers (set zs i (Served (record { job = a.job; worth = w })))) f
-        ∙ ap (λ n. take b.carriers (set (freed b.standings a.displaced) i (Served (record { job = a.job; worth = n })))) q
-        ∙ take_set_any b.carriers (freed b.standings a.displaced) i (Served (record { job = a.job; worth = worth }))
-        ∙ ap (λ zs. set zs i (Served (record { job = a.job; worth = worth }))) (take-freed b.carriers b.standings a.displaced))
+        (ap (take b.noted.jobs) (map-set (λ l. l.price) b.lots a.job lot) ∙ take_set_any b.noted.jobs (prices_of b.lots) a.job a.price)
+        (ap (take b.noted.jobs) (map-set (λ l. l.holder) b.lots a.job lot) ∙ take_set_any b.noted.jobs (holders_of b.lots) a.job (Some i))
+        (ap (λ zs. take b.noted.carriers (set zs i (Served (record { job = a.job; worth = w })))) f
+        ∙ ap (λ n. take b.noted.carriers (set (freed b.standings a.displaced) i (Served (record { job = a.job; worth = n })))) q
+        ∙ take_set_any b.noted.carriers (freed b.standings a.displaced) i (Served (record { job = a.job; worth = worth }))
+        ∙ ap (λ zs. set zs i (Served (record { job = a.job; worth = worth }))) (take-freed b.noted.carriers b.standings a.displaced))
         refl
 
     pub award_keeps : (ss : List Standing) (w : ℕ) → ss ≡ freed b.standings a.displaced → w ≡ worth →
-        Kept b.carriers b.jobs b.ceiling b.step b.lanes (set b.prices a.job a.price) (set b.holders a.job (Some i))
-        (set ss i (Served (record { job = a.job; worth = w }))) (counted_award b.counts)
+        Kept b.noted b.step b.lanes (set b.lots a.job lot) (set ss i (Served (record { job = a.job; worth = w }))) (counted_award b.counts)
     award_keeps ss w f q =
         let k = kept_out b.kept in
-        kept_by (carried_out i worth (Awarded a) (tally_in b)) (length-set b.prices a.job a.price ∙ k.prices_long) (length-set b.holders a.job (Some i) ∙ k.holders_long)
+        kept_by (carried_out i worth (Awarded a) (tally_in b)) (length-set b.lots a.job lot ∙ k.lots_long)
         (length-set ss i (Served (record { job = a.job; worth = w })) ∙ ap length f ∙ length-freed b.standings a.displaced ∙ k.standings_long)
         (award_in ss w f q) (consistent_after (Awarded a) e)
 
@@ -126,7 +129,7 @@ module _ (m : Meaning) (i : ℕ) (x : Bid) (old new : Books) (answer : Ok x ≡ 
   stood : standing_at (tally_in old) i ≡ Bidding x
   stood =
       standing_in old i (bid_known m i Settle old x answer)
-      ∙ settle_stands old.lanes (take old.jobs old.prices) (row_of m i) (get_or old.standings i Waiting) x (sym (bid_given m i Settle old x answer))
+      ∙ settle_stands old.lanes (take old.noted.jobs (prices_of old.lots)) (row_of m i) (get_or old.standings i Waiting) x (sym (bid_given m i Settle old x answer))
 
   -- The bid is found, and nothing is changed yet.
   unchanged : bids Settle i x (tally_in old) ≡ tally_in old
@@ -137,21 +140,21 @@ module _ (m : Meaning) (i : ℕ) (x : Bid) (old new : Books) (answer : Ok x ≡ 
   found = has_tally m new (tally_in old) (tallied ∙ ap (once (called m i Settle)) (open_tally m old (bid_open m i Settle old x answer))
       ∙ ap (λ r. Some (taken r (bids Settle i) (tally_in old))) (sym (bid_in m i Settle old x answer)) ∙ ap Some unchanged)
 
-  pub settles_known : i < new.carriers
+  pub settles_known : i < new.noted.carriers
   settles_known = omega (arith, bid_known m i Settle old x answer, (open_parts m old (bid_open m i Settle old x answer)).1, (open_parts m new found.0).1)
 
   pub settles_bidding : standing_at (tally_in new) i ≡ Bidding x
   settles_bidding = ap (λ t. standing_at t i) found.1 ∙ stood
 
-  sound_there : BidSound new.jobs new.ceiling x.runner_up x.best
-  sound_there = subst (StandingSound new.jobs new.ceiling) settles_bidding ((consistent_in new).sound i)
+  sound_there : BidSound new.noted.jobs new.noted.ceiling x.runner_up x.best
+  sound_there = subst (StandingSound new.noted.jobs new.noted.ceiling) settles_bidding ((consistent_in new).sound i)
 
   pub settles_sound : BidSound 256 (2 ^ 36) x.runner_up x.best
-  settles_sound = wider new.jobs new.ceiling 256 (2 ^ 36) x.runner_up x.best (consistent_in new).limits.few_jobs (consistent_in new).limits.low_ceiling sound_there
+  settles_sound = wider new.noted.jobs new.noted.ceiling 256 (2 ^ 36) x.runner_up x.best (consistent_in new).limits.few_jobs (consistent_in new).limits.low_ceiling sound_there
 
-  module _ (v : Verdict) (judged-is : v ≡ judged new.step new.prices new.holders x) where
+  module _ (v : Verdict) (judged-is : v ≡ judged new.step (prices_of new.lots) (holders_of new.lots) x) where
     pub settles_ruled : v ≡ verdict_in (tally_in new) x
-    settles_ruled = judged-is ∙ judged_cut new.jobs new.ceiling new.step new.prices new.holders x sound_there
+    settles_ruled = judged-is ∙ judged_cut new.noted.jobs new.noted.ceiling new.step (prices_of new.lots) (holders_of new.lots) x sound_there
 
     ruled_in : v ≡ verdict_in (tally_in old) x
     ruled_in = settles_ruled ∙ ap (λ t. verdict_in t x) found.1
@@ -162,8 +165,7 @@ module _ (m : Meaning) (i : ℕ) (x : Bid) (old new : Books) (answer : Ok x ≡ 
 
     pub settled_tally : (last : Books) → Noted new last → tally_in last ≡ carried_out i (best_worth x.best) v (tally_in new) → tally_of m last ≡ settle_tally i m (tally_of m old)
     settled_tally last n e =
-        let p = open_parts m new found.0 in
-        open_tally m last (is_open_lem m last (n.started_is ∙ p.0) (n.carriers_is ∙ p.1) (n.jobs_is ∙ p.2) (n.ceiling_is ∙ p.3))
+        open_tally m last (is_open_lem m last (n.started_is ∙ (open_parts m new found.0).0) (n.noted_is ∙ open_noted m new found.0))
         ∙ ap Some (e ∙ ap (carried_out i (best_worth x.best) v) found.1 ∙ ap (λ w. carried_out i (best_worth x.best) w (tally_in old)) ruled_in)
         ∙ ap (λ r. Some (taken r (ended i) (tally_in old))) (bid_in m i Settle old x answer)
         ∙ sym (ap (settle_tally i m) (open_tally m old (bid_open m i Settle old x answer)))

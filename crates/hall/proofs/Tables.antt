@@ -16,8 +16,7 @@ use Rattle.auction.proofs.Keeping.{opened_consistent}
 use Rattle.hall.specs.declared.books.Books.{Books}
 use Rattle.sources.specs.Tables.{heading_of}
 use Rattle.sources.specs.declared.form.Heading.{Heading}
-use Rattle.hall.specs.Steps.{NotedOf}
-use Rattle.hall.specs.Kept.{Kept, tally_held}
+use Rattle.hall.specs.Kept.{Kept, unsold, tally_held, prices_of}
 use Rattle.hall.specs.InBooks.{is_open, tally_in, tally_of}
 use Rattle.hall.proofs.Keeps.{kept_out, kept_by}
 
@@ -35,20 +34,17 @@ take-freed n ss None = refl
 take-freed n ss (Some j) = take_set_any n ss j Waiting
 
 -- Books with equal fields are equal: the ghost field is a fact.
-pub same_books : (a b : Books) → a.started ≡ b.started → a.carriers ≡ b.carriers → a.jobs ≡ b.jobs → a.ceiling ≡ b.ceiling → a.step ≡ b.step → a.lanes ≡ b.lanes →
-    a.prices ≡ b.prices → a.holders ≡ b.holders → a.standings ≡ b.standings → a.counts ≡ b.counts → a ≡ b
-same_books a b e1 e2 e3 e4 e5 e6 e7 e8 e9 e10 = λ i. record {
+pub same_books : (a b : Books) → a.started ≡ b.started → a.noted ≡ b.noted → a.step ≡ b.step → a.lanes ≡ b.lanes → a.lots ≡ b.lots → a.standings ≡ b.standings →
+    a.counts ≡ b.counts → a ≡ b
+same_books a b e1 e2 e3 e4 e5 e6 e7 = λ i. record {
   started = e1 i;
-  carriers = e2 i;
-  jobs = e3 i;
-  ceiling = e4 i;
-  step = e5 i;
-  lanes = e6 i;
-  prices = e7 i;
-  holders = e8 i;
-  standings = e9 i;
-  counts = e10 i;
-  kept = is_prop→PathP (λ j. ∥ Kept (e2 j) (e3 j) (e4 j) (e5 j) (e6 j) (e7 j) (e8 j) (e9 j) (e10 j) ∥₁) (λ j. ∥∥₁_prop) a.kept b.kept i;
+  noted = e2 i;
+  step = e3 i;
+  lanes = e4 i;
+  lots = e5 i;
+  standings = e6 i;
+  counts = e7 i;
+  kept = is_prop→PathP (λ j. ∥ Kept (e2 j) (e3 j) (e4 j) (e5 j) (e6 j) (e7 j) ∥₁) (λ j. ∥∥₁_prop) a.kept b.kept i;
 }
 
 -- ---- books that are open to a source
@@ -63,72 +59,76 @@ shut_tally m b e = cond-false (is_open m b) (Some (tally_in b)) None e
 
 -- Books that were never started.
 pub new_tally : (m : Meaning) (b : Books) → b.started ≡ false → tally_of m b ≡ None
-new_tally m b e = shut_tally m b (and_left b.started (eqb b.carriers m.carriers && (eqb b.jobs m.jobs && eqb b.ceiling m.ceiling)) e)
+new_tally m b e = shut_tally m b (and_left b.started (eqb b.noted.carriers m.carriers && (eqb b.noted.jobs m.jobs && eqb b.noted.ceiling m.ceiling)) e)
 
 -- Books whose tally is there are open, and hold it.
 pub has_tally : (m : Meaning) (b : Books) (t : Tally) → tally_of m b ≡ Some t → (is_open m b ≡ true) × (tally_in b ≡ t)
 has_tally m b t e = ⊎_elim (λ o. (o, some_same (sym (open_tally m b o) ∙ e)))
     (λ o. let q : None ≡ Some t = sym (shut_tally m b o) ∙ e in let z : ◌≡◌ {A = ℕ} 0 1 = cc in absurd (omega arith)) (cases_Bool (is_open m b))
 
-pub is_open_lem : (m : Meaning) (b : Books) → b.started ≡ true → b.carriers ≡ m.carriers → b.jobs ≡ m.jobs → b.ceiling ≡ m.ceiling → is_open m b ≡ true
-is_open_lem m b s c j l =
-    and_from b.started (eqb b.carriers m.carriers && (eqb b.jobs m.jobs && eqb b.ceiling m.ceiling)) s
-    (and_from (eqb b.carriers m.carriers) (eqb b.jobs m.jobs && eqb b.ceiling m.ceiling) (eq-eqb b.carriers m.carriers c)
-    (and_from (eqb b.jobs m.jobs) (eqb b.ceiling m.ceiling) (eq-eqb b.jobs m.jobs j) (eq-eqb b.ceiling m.ceiling l)))
+pub is_open_lem : (m : Meaning) (b : Books) → b.started ≡ true → b.noted ≡ heading_of m → is_open m b ≡ true
+is_open_lem m b s e =
+    and_from b.started (eqb b.noted.carriers m.carriers && (eqb b.noted.jobs m.jobs && eqb b.noted.ceiling m.ceiling)) s
+    (and_from (eqb b.noted.carriers m.carriers) (eqb b.noted.jobs m.jobs && eqb b.noted.ceiling m.ceiling) (eq-eqb b.noted.carriers m.carriers (ap (λ h. h.carriers) e))
+    (and_from (eqb b.noted.jobs m.jobs) (eqb b.noted.ceiling m.ceiling) (eq-eqb b.noted.jobs m.jobs (ap (λ h. h.jobs) e)) (eq-eqb b.noted.ceiling m.ceiling (ap (λ h. h.ceiling) e))))
 
-pub open_parts : (m : Meaning) (b : Books) → is_open m b ≡ true → (b.started ≡ true) × (b.carriers ≡ m.carriers) × (b.jobs ≡ m.jobs) × (b.ceiling ≡ m.ceiling)
+pub open_parts : (m : Meaning) (b : Books) → is_open m b ≡ true → (b.started ≡ true) × (b.noted.carriers ≡ m.carriers) × (b.noted.jobs ≡ m.jobs) × (b.noted.ceiling ≡ m.ceiling)
 open_parts m b e =
-    let p = and_parts b.started (eqb b.carriers m.carriers && (eqb b.jobs m.jobs && eqb b.ceiling m.ceiling)) e in
-    let q = and_parts (eqb b.carriers m.carriers) (eqb b.jobs m.jobs && eqb b.ceiling m.ceiling) p.1 in
-    let r = and_parts (eqb b.jobs m.jobs) (eqb b.ceiling m.ceiling) q.1 in
-    (p.0, eqb-true b.carriers m.carriers q.0, eqb-true b.jobs m.jobs r.0, eqb-true b.ceiling m.ceiling r.1)
+    let p = and_parts b.started (eqb b.noted.carriers m.carriers && (eqb b.noted.jobs m.jobs && eqb b.noted.ceiling m.ceiling)) e in
+    let q = and_parts (eqb b.noted.carriers m.carriers) (eqb b.noted.jobs m.jobs && eqb b.noted.ceiling m.ceiling) p.1 in
+    let r = and_parts (eqb b.noted.jobs m.jobs) (eqb b.noted.ceiling m.ceiling) q.1 in
+    (p.0, eqb-true b.noted.carriers m.carriers q.0, eqb-true b.noted.jobs m.jobs r.0, eqb-true b.noted.ceiling m.ceiling r.1)
+
+pub open_noted : (m : Meaning) (b : Books) → is_open m b ≡ true → b.noted ≡ heading_of m
+open_noted m b e = let p = open_parts m b e in λ i. record { carriers = p.1 i; jobs = p.2 i; ceiling = p.3 i }
 
 -- What is consistent by the numbers that start noted is so by those of the source, and the other way.
-pub renumbered : (c c' j j' k k' : ℕ) (t : Tally) → c ≡ c' → j ≡ j' → k ≡ k' → Consistent c j k t → Consistent c' j' k' t
-renumbered c c' j j' k k' t p q r h =
-    subst (λ z. Consistent z j' k' t) p (subst (λ z. Consistent c z k' t) q (subst (λ z. Consistent c j z t) r h))
+pub renoted : (h k : Heading) (t : Tally) → h ≡ k → Consistent h.carriers h.jobs h.ceiling t → Consistent k.carriers k.jobs k.ceiling t
+renoted h k t e c = subst (λ z. Consistent z.carriers z.jobs z.ceiling t) e c
 
-pub consistent_in : (b : Books) → Consistent b.carriers b.jobs b.ceiling (tally_in b)
+pub consistent_in : (b : Books) → Consistent b.noted.carriers b.noted.jobs b.noted.ceiling (tally_in b)
 consistent_in b = (kept_out b.kept).consistent
 
-pub few_places : (b : Books) (i : ℕ) → i < b.carriers → i < 128
+pub few_places : (b : Books) (i : ℕ) → i < b.noted.carriers → i < 128
 few_places b i l = omega (arith, l, (consistent_in b).limits.few_carriers)
 
-pub low_prices_in : (m : Meaning) (b : Books) → is_open m b ≡ true → (j : ℕ) → get_or (take m.jobs b.prices) j 0 ≤ 2 ^ 37
+pub low_prices_in : (m : Meaning) (b : Books) → is_open m b ≡ true → (j : ℕ) → get_or (take m.jobs (prices_of b.lots)) j 0 ≤ 2 ^ 37
 low_prices_in m b o j =
     let k = consistent_in b in
-    let e : get_or (take b.jobs b.prices) j 0 ≡ get_or (take m.jobs b.prices) j 0 = ap (λ n. get_or (take n b.prices) j 0) (open_parts m b o).2 in
+    let e : get_or (take b.noted.jobs (prices_of b.lots)) j 0 ≡ get_or (take m.jobs (prices_of b.lots)) j 0 = ap (λ n. get_or (take n (prices_of b.lots)) j 0) (open_parts m b o).2 in
     omega (arith, e, k.low_prices j, k.limits.low_ceiling, k.limits.low_step)
 
 -- A carrier's place in the table and in the tally.
-pub standing_in : (b : Books) (i : ℕ) → i < b.carriers → standing_at (tally_in b) i ≡ get_or b.standings i Waiting
+pub standing_in : (b : Books) (i : ℕ) → i < b.noted.carriers → standing_at (tally_in b) i ≡ get_or b.standings i Waiting
 standing_in b i l =
-    get_or-take b.carriers b.standings i Out l ∙ get_or_default b.standings i Out Waiting (omega (arith, few_places b i l, (kept_out b.kept).standings_long))
+    get_or-take b.noted.carriers b.standings i Out l ∙ get_or_default b.standings i Out Waiting (omega (arith, few_places b i l, (kept_out b.kept).standings_long))
 
 -- A standing in the table is one in the tally.
 pub stands_in : (b : Books) (i : ℕ) (s : Standing) (n : Counts) →
-    tally_held b.carriers b.jobs b.step b.lanes b.prices b.holders (set b.standings i s) n ≡ stands i s n (tally_in b)
+    tally_held b.noted b.step b.lanes b.lots (set b.standings i s) n ≡ stands i s n (tally_in b)
 stands_in b i s n =
-    same_tally (tally_held b.carriers b.jobs b.step b.lanes b.prices b.holders (set b.standings i s) n) (stands i s n (tally_in b)) refl refl refl refl
-    (take_set_any b.carriers b.standings i s) refl
+    same_tally (tally_held b.noted b.step b.lanes b.lots (set b.standings i s) n) (stands i s n (tally_in b)) refl refl refl refl
+    (take_set_any b.noted.carriers b.standings i s) refl
 
 -- ---- books just opened
 
 pub all_zero : (n : Counts) → n.summonses ≡ 0 → n.awards ≡ 0 → n.stales ≡ 0 → n.outs ≡ 0 → n ≡ no_counts
 all_zero n a b c d = λ i. record { summonses = a i; awards = b i; stales = c i; outs = d i }
 
-module _ (carriers jobs ceiling step lanes : ℕ) (lim : Limits carriers jobs ceiling step lanes) (n : Counts) (zero-is : n ≡ no_counts) where
-  pub opened_is : tally_held carriers jobs step lanes (replicate 256 0) (replicate 256 None) (replicate 128 Waiting) n ≡ opened carriers jobs step lanes
+module _ (h : Heading) (step lanes : ℕ) (lim : Limits h.carriers h.jobs h.ceiling step lanes) (n : Counts) (zero-is : n ≡ no_counts) where
+  pub opened_is : tally_held h step lanes (replicate 256 unsold) (replicate 128 Waiting) n ≡ opened h.carriers h.jobs step lanes
   unfolding opened
   opened_is =
-      same_tally (tally_held carriers jobs step lanes (replicate 256 0) (replicate 256 None) (replicate 128 Waiting) n) (opened carriers jobs step lanes) refl refl
-      (take-replicate jobs 256 0 lim.few_jobs) (take-replicate jobs 256 None lim.few_jobs) (take-replicate carriers 128 Waiting lim.few_carriers) zero-is
+      same_tally (tally_held h step lanes (replicate 256 unsold) (replicate 128 Waiting) n) (opened h.carriers h.jobs step lanes) refl refl
+      (take-replicate h.jobs 256 0 lim.few_jobs)
+      (take-replicate h.jobs 256 None lim.few_jobs)
+      (take-replicate h.carriers 128 Waiting lim.few_carriers) zero-is
 
-  pub opened_keeps : Kept carriers jobs ceiling step lanes (replicate 256 0) (replicate 256 None) (replicate 128 Waiting) n
-  opened_keeps = kept_by (opened carriers jobs step lanes) refl refl refl opened_is (opened_consistent carriers jobs ceiling step lanes lim)
+  pub opened_keeps : Kept h step lanes (replicate 256 unsold) (replicate 128 Waiting) n
+  opened_keeps = kept_by (opened h.carriers h.jobs step lanes) refl refl opened_is (opened_consistent h.carriers h.jobs h.ceiling step lanes lim)
 
-pub opened_tally : (m : Meaning) (h : Heading) (step lanes : ℕ) (b : Books) (o : Option Tally) → h ≡ heading_of m → b.started ≡ true → NotedOf h b →
+pub opened_tally : (m : Meaning) (h : Heading) (step lanes : ℕ) (b : Books) (o : Option Tally) → h ≡ heading_of m → b.started ≡ true → b.noted ≡ h →
     tally_in b ≡ opened h.carriers h.jobs step lanes → start_answer step lanes m ≡ Ok tt → tally_of m b ≡ start_tally step lanes m o
 opened_tally m h step lanes b o q s n e ok =
-    open_tally m b (is_open_lem m b s (n.carriers_is ∙ ap (λ z. z.carriers) q) (n.jobs_is ∙ ap (λ z. z.jobs) q) (n.ceiling_is ∙ ap (λ z. z.ceiling) q))
+    open_tally m b (is_open_lem m b s (n ∙ q))
     ∙ ap Some (e ∙ ap (λ z. opened z.carriers z.jobs step lanes) q) ∙ sym (ap (λ r. start_tally_by r (opened m.carriers m.jobs step lanes) o) ok)

@@ -7,10 +7,10 @@ use Rattle.hall.specs.Kept.{tally_held}
 
 -- The books were started, and what start noted is what the source means.
 abbrev pub is_open : Meaning → Books → Bool
-is_open m b = b.started && (b.carriers == m.carriers && (b.jobs == m.jobs && b.ceiling == m.ceiling))
+is_open m b = b.started && (b.noted.carriers == m.carriers && (b.noted.jobs == m.jobs && b.noted.ceiling == m.ceiling))
 
 abbrev pub tally_in : Books → Tally
-tally_in b = tally_held b.carriers b.jobs b.step b.lanes b.prices b.holders b.standings b.counts
+tally_in b = tally_held b.noted b.step b.lanes b.lots b.standings b.counts
 
 -- None where the hall was never started.
 unfoldable pub tally_of : Meaning → Books → Option Tally

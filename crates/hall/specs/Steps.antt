@@ -1,7 +1,6 @@
 -- What the private functions of the books answer and leave.
 use Rattle.std.specs.Prelude.{◌≡◌, ℕ, cond, Ok, Err, Result, nat_lt}
 use Rattle.sources.specs.Meaning.{Meaning}
-use Rattle.sources.specs.declared.form.Heading.{Heading}
 use Rattle.refusals.specs.declared.Refusal.{Refusal}
 use Rattle.refusals.specs.declared.Refusal.TheVariants.{NeverStarted, NoSuchCarrier, NoSuchJob}
 use Rattle.auction.specs.declared.standing.Bid.{Bid}
@@ -18,10 +17,10 @@ abbrev pub admitted_below : ℕ → Refusal → Meaning → ℕ → Books → Re
 admitted_below n e m i b = cond (is_open m b) (cond (nat_lt i n) (Ok tt) (Err e)) (Err NeverStarted)
 
 abbrev pub admitted : Meaning → ℕ → Books → Result (Unit {0}) Refusal
-admitted m i b = admitted_below b.carriers NoSuchCarrier m i b
+admitted m i b = admitted_below b.noted.carriers NoSuchCarrier m i b
 
 abbrev pub admitted_job : Meaning → ℕ → Books → Result (Unit {0}) Refusal
-admitted_job m j b = admitted_below b.jobs NoSuchJob m j b
+admitted_job m j b = admitted_below b.noted.jobs NoSuchJob m j b
 
 -- A bid that is begun or carried on is the carrier's standing after.
 abbrev pub standing_after : Standing → Result Bid Refusal → Standing
@@ -32,15 +31,7 @@ abbrev pub counts_after : Act → Counts → Result Bid Refusal → Counts
 counts_after act n (Ok b) = counted act n
 counts_after act n (Err e) = n
 
--- What is noted are the three numbers of a source.
-pub record NotedOf (h : Heading) (b : Books) : Type 0 where
-  pub carriers_is : b.carriers ≡ h.carriers
-  pub jobs_is : b.jobs ≡ h.jobs
-  pub ceiling_is : b.ceiling ≡ h.ceiling
-
 -- What start noted is as it was.
 pub record Noted (old new : Books) : Type 0 where
   pub started_is : new.started ≡ old.started
-  pub carriers_is : new.carriers ≡ old.carriers
-  pub jobs_is : new.jobs ≡ old.jobs
-  pub ceiling_is : new.ceiling ≡ old.ceiling
+  pub noted_is : new.noted ≡ old.noted

@@ -2,25 +2,33 @@
 ghost use Rattle.hall.specs.Kept.{Kept};
 
 use auction::standing::{Counts, Standing};
+use sources::checks::{MOST_CARRIERS, MOST_JOBS};
+use sources::form::Heading;
 
 mod calls;
 mod questions;
 mod queues;
 mod runs;
 
+// What is kept of a job: its price, and the carrier that holds it, if there is one.
+#[derive(Clone, Copy)]
+struct Lot {
+    price: u64,
+    holder: Option<usize>,
+}
+
+// A flag, and no `Option`: every call would have to open it, while `is_open` reads it together with what start noted.
+// Arrays with the numbers used in `noted`: no heap is used here, since C calls it.
 #[derive(Drop)]
 pub struct Books {
     started: bool,
     // What start noted of the source.
-    carriers: usize,
-    jobs: usize,
-    ceiling: u64,
+    noted: Heading,
     step: u64,
     lanes: usize,
     // The first of each are the jobs' and the carriers'.
-    prices: [u64; 256],
-    holders: [Option<usize>; 256],
-    standings: [Standing; 128],
+    lots: [Lot; MOST_JOBS],
+    standings: [Standing; MOST_CARRIERS],
     counts: Counts,
-    ghost kept: { ∥ Kept carriers jobs ceiling step lanes prices holders standings counts ∥₁ },
+    ghost kept: { ∥ Kept noted step lanes lots standings counts ∥₁ },
 }

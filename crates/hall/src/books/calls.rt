@@ -6,16 +6,17 @@ ghost use Rattle.auction.specs.Consistent.{Limits, BidSound};
 ghost use Rattle.auction.specs.Looks.{Looks};
 ghost use Rattle.auction.specs.Rules.{opened, start_answer, start_tally, bid_after, bid_by, once, called, summon_answer, summon_tally, look_answer, look_tally, freed, verdict_in, carried_out, settle_answer, settle_tally};
 ghost use Rattle.auction.specs.Tally.{standing_at};
+ghost use Rattle.hall.specs.Kept.{prices_of, holders_of};
 ghost use Rattle.hall.specs.InBooks.{tally_in, tally_of, is_open};
 ghost use Rattle.hall.specs.Ruled.{Ruled};
-ghost use Rattle.hall.specs.Steps.{NotedOf, Noted, admitted, counts_after, standing_after};
+ghost use Rattle.hall.specs.Steps.{Noted, admitted, counts_after, standing_after};
 
-use super::Books;
+use super::{Books, Lot};
 use crate::weighing::{best_worth, weighed};
 use auction::standing::{Act, Award, Bid, Counts, Held, Standing, Verdict};
 use refusals::Refusal;
-use sources::asking::{heading_of, row_length};
-use sources::checks::within_limits;
+use sources::asking::{entries_from, heading_of, row_length};
+use sources::checks::{MOST_CARRIERS, MOST_JOBS, within_limits};
 use sources::form::Heading;
 use sources::source::Source;
 
@@ -36,22 +37,19 @@ fn check_start<S: Source>(source: &S, step: u64, lanes: usize) -> Result<(), Ref
 // Looks at the next entries of the carrier's row, as many as there are lanes, or as many as are left.
 fn look_on<S: Source>(
     source: &S,
-    prices: &[u64; 256],
+    lots: &[Lot; MOST_JOBS],
     lanes: usize,
     carrier: usize,
     bid: Bid,
 ) -> Bid
     requires few_jobs { (S.meaning source.now).jobs ≤ 256 }
-    requires low_prices { (j : ℕ) → slice_index (take (S.meaning source.now).jobs prices.now) j ≤ 2 ^ 37 }
+    requires low_prices { (j : ℕ) → slice_index (take (S.meaning source.now).jobs (prices_of lots.now)) j ≤ 2 ^ 37 }
     requires short_row { length (row_of (S.meaning source.now) carrier) < 2 ^ 64 }
-    ensures { result ≡ looked_on lanes (take (S.meaning source.now).jobs prices.now) (row_of (S.meaning source.now) carrier) bid }
+    ensures { result ≡ looked_on lanes (take (S.meaning source.now).jobs (prices_of lots.now)) (row_of (S.meaning source.now) carrier) bid }
 {
     let mut bid = bid;
-    for _lane in 0..lanes {
-        let Some((job, worth)) = source.entry(carrier, bid.looked) else {
-            break;
-        };
-        bid = weighed(bid, job, worth, prices[job]);
+    for (job, worth) in entries_from(source, carrier, bid.looked).take(lanes) {
+        bid = weighed(bid, job, worth, lots[job].price);
     }
     bid
 }
@@ -59,7 +57,7 @@ fn look_on<S: Source>(
 // What a carrier's standing and the call together lead to: the bid that the call begins, carries on or finds ready to be judged.
 fn respond<S: Source>(
     source: &S,
-    prices: &[u64; 256],
+    lots: &[Lot; MOST_JOBS],
     lanes: usize,
     carrier: usize,
     standing: &mut Standing,
@@ -67,9 +65,9 @@ fn respond<S: Source>(
     act: Act,
 ) -> Result<Bid, Refusal>
     requires few_jobs { (S.meaning source.now).jobs ≤ 256 }
-    requires low_prices { (j : ℕ) → slice_index (take (S.meaning source.now).jobs prices.now) j ≤ 2 ^ 37 }
+    requires low_prices { (j : ℕ) → slice_index (take (S.meaning source.now).jobs (prices_of lots.now)) j ≤ 2 ^ 37 }
     requires few_summonses { counts.old.summonses ≤ 2 ^ 53 }
-    ensures answered { result ≡ bid_after lanes (take (S.meaning source.now).jobs prices.now) (row_of (S.meaning source.now) carrier) standing.old act }
+    ensures answered { result ≡ bid_after lanes (take (S.meaning source.now).jobs (prices_of lots.now)) (row_of (S.meaning source.now) carrier) standing.old act }
     ensures stood { standing.new ≡ standing_after standing.old result }
     ensures numbered { counts.new ≡ counts_after act counts.old result }
 {
@@ -88,7 +86,7 @@ fn respond<S: Source>(
             if bid.looked >= row_length(source, carrier) {
                 return Err(Refusal::RowLookedAt);
             }
-            let further = look_on(source, prices, lanes, carrier, bid);
+            let further = look_on(source, lots, lanes, carrier, bid);
             *standing = Standing::Bidding(further);
             Ok(further)
         }
@@ -104,10 +102,10 @@ fn respond<S: Source>(
 }
 
 // What becomes of a bid at these prices.
-fn judge(step: u64, prices: &[u64; 256], holders: &[Option<usize>; 256], bid: Bid) -> Verdict
+fn judge(step: u64, lots: &[Lot; MOST_JOBS], bid: Bid) -> Verdict
     requires low_step { step ≤ 2 ^ 36 }
     requires sound { BidSound 256 (2 ^ 36) bid.runner_up bid.best }
-    ensures { result ≡ judged step prices.now holders.now bid }
+    ensures { result ≡ judged step (prices_of lots.now) (holders_of lots.now) bid }
 {
     let Some(best) = bid.best else {
         return Verdict::Out;
@@ -116,18 +114,19 @@ fn judge(step: u64, prices: &[u64; 256], holders: &[Option<usize>; 256], bid: Bi
         return Verdict::Out;
     }
     let price = best.worth - bid.runner_up + step;
-    if price <= prices[best.job] {
+    let lot = lots[best.job];
+    if price <= lot.price {
         return Verdict::Stale;
     }
     Verdict::Awarded(Award {
         job: best.job,
         price,
-        displaced: holders[best.job],
+        displaced: lot.holder,
     })
 }
 
 // A carrier that lost its job waits.
-fn free(standings: &mut [Standing; 128], former: Option<usize>)
+fn free(standings: &mut [Standing; MOST_CARRIERS], former: Option<usize>)
     requires { (i : ℕ) → former ≡ Some i → i < 128 }
     ensures { standings.new ≡ freed standings.old former }
 {
@@ -141,19 +140,19 @@ impl Books {
     fn fresh(started: bool, heading: Heading, step: u64, lanes: usize) -> Self
         requires { Limits heading.carriers heading.jobs heading.ceiling step lanes }
         ensures flag { result.started ≡ started }
-        ensures noted { NotedOf heading result }
+        ensures noted { result.noted ≡ heading }
         ensures opened { tally_in result ≡ opened heading.carriers heading.jobs step lanes }
     {
         Books {
             started,
-            carriers: heading.carriers,
-            jobs: heading.jobs,
-            ceiling: heading.ceiling,
+            noted: heading,
             step,
             lanes,
-            prices: [0; 256],
-            holders: [None; 256],
-            standings: [Standing::Waiting; 128],
+            lots: [Lot {
+                price: 0,
+                holder: None,
+            }; MOST_JOBS],
+            standings: [Standing::Waiting; MOST_CARRIERS],
             counts: Counts::default(),
         }
     }
@@ -174,10 +173,7 @@ impl Books {
     pub(super) fn is_open<S: Source>(&self, source: &S) -> bool
         ensures { result ≡ is_open (S.meaning source.now) self.now }
     {
-        self.started
-            && self.carriers == source.carriers()
-            && self.jobs == source.jobs()
-            && self.ceiling == source.ceiling()
+        self.started && self.noted == heading_of(source)
     }
 
     pub(crate) fn start<S: Source>(
@@ -199,7 +195,7 @@ impl Books {
     {
         if !self.is_open(source) {
             Err(Refusal::NeverStarted)
-        } else if carrier >= self.carriers {
+        } else if carrier >= self.noted.carriers {
             Err(Refusal::NoSuchCarrier)
         } else {
             Ok(())
@@ -215,7 +211,7 @@ impl Books {
         self.admit(source, carrier)?;
         respond(
             source,
-            &self.prices,
+            &self.lots,
             self.lanes,
             carrier,
             &mut self.standings[carrier],
@@ -241,7 +237,7 @@ impl Books {
 
     // Carries out the verdict on a carrier's bid.
     fn carry_out(&mut self, carrier: usize, bid: Bid, verdict: Verdict)
-        requires known { carrier < self.old.carriers }
+        requires known { carrier < self.old.noted.carriers }
         requires bidding { standing_at (tally_in self.old) carrier ≡ Standing.Bidding bid }
         requires ruled { verdict ≡ verdict_in (tally_in self.old) bid }
         ensures noted { Noted self.old self.new }
@@ -258,8 +254,10 @@ impl Books {
             }
             Verdict::Awarded(award) => {
                 free(&mut self.standings, award.displaced);
-                self.prices[award.job] = award.price;
-                self.holders[award.job] = Some(carrier);
+                self.lots[award.job] = Lot {
+                    price: award.price,
+                    holder: Some(carrier),
+                };
                 self.standings[carrier] = Standing::Served(Held {
                     job: award.job,
                     worth: best_worth(bid),
@@ -277,7 +275,7 @@ impl Books {
         ensures { Ruled (settle_answer carrier) (settle_tally carrier) (S.meaning source.now) self.old self.new result }
     {
         let bid = self.call_on(source, carrier, Act::Settle)?;
-        let verdict = judge(self.step, &self.prices, &self.holders, bid);
+        let verdict = judge(self.step, &self.lots, bid);
         self.carry_out(carrier, bid, verdict);
         Ok(verdict)
     }

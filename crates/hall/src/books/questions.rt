@@ -35,7 +35,7 @@ impl Books {
     {
         if !self.is_open(source) {
             Err(Refusal::NeverStarted)
-        } else if job >= self.jobs {
+        } else if job >= self.noted.jobs {
             Err(Refusal::NoSuchJob)
         } else {
             Ok(())
@@ -46,14 +46,14 @@ impl Books {
         ensures { result ≡ price_answer job (S.meaning source.now) (tally_of (S.meaning source.now) self.now) }
     {
         self.admit_job(source, job)?;
-        Ok(self.prices[job])
+        Ok(self.lots[job].price)
     }
 
     pub(crate) fn holder<S: Source>(&self, source: &S, job: usize) -> Result<Option<usize>, Refusal>
         ensures { result ≡ holder_answer job (S.meaning source.now) (tally_of (S.meaning source.now) self.now) }
     {
         self.admit_job(source, job)?;
-        Ok(self.holders[job])
+        Ok(self.lots[job].holder)
     }
 
     pub(crate) fn standing<S: Source>(
@@ -73,7 +73,7 @@ impl Books {
         if !self.is_open(source) {
             return Err(Refusal::NeverStarted);
         }
-        Ok(total_worth(&self.standings[..self.carriers]))
+        Ok(total_worth(&self.standings[..self.noted.carriers]))
     }
 
     pub(crate) fn counts<S: Source>(&self, source: &S) -> Result<Counts, Refusal>

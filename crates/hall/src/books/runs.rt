@@ -102,7 +102,7 @@ impl Books {
         requires nobody_bids { held queues.old.flight ≡ [] }
         ensures { state_of self.now queues.new 0 ≡ beginning (S.meaning source.now) (tally_in self.now) }
     {
-        for (carrier, standing) in self.standings[..self.carriers].iter().enumerate() {
+        for (carrier, standing) in self.standings[..self.noted.carriers].iter().enumerate() {
             match *standing {
                 Standing::Waiting => queues.join_line(carrier),
                 Standing::Bidding(bid) => {

@@ -11,7 +11,7 @@ use Rattle.hall.proofs.books.Books.begin.Goals.{in-Waiting, in-Bidding, in-Serve
 pub join_line-requires : goal.join_line-requires
 join_line-requires g c =
     let b = c.args.self.now in
-    omega (arith, ap length c.loop-carrier.invariant.waits, gathered_few if_waiting (take b.carriers b.standings) c.loop-carrier.carrier c.loop-carrier-test.true one_waits (few_standings b))
+    omega (arith, ap length c.loop-carrier.invariant.waits, gathered_few if_waiting (take b.noted.carriers b.standings) c.loop-carrier.carrier c.loop-carrier-test.true one_waits (few_standings b))
 
 pub join_flight-requires : goal.join_flight-requires
 join_flight-requires g c =
@@ -20,7 +20,7 @@ join_flight-requires g c =
     omega (
       arith,
       ap length c.loop-carrier.invariant.bids,
-      gathered_few (if_bidding m b.lanes) (take b.carriers b.standings) c.loop-carrier.carrier c.loop-carrier-test.true (one-bids m b.lanes) (few_standings b),
+      gathered_few (if_bidding m b.lanes) (take b.noted.carriers b.standings) c.loop-carrier.carrier c.loop-carrier-test.true (one-bids m b.lanes) (few_standings b),
     )
 
 pub looks_for-requires : goal.looks_for-requires
@@ -37,7 +37,7 @@ pub loop-carrier-preserved : goal.loop-carrier-preserved
 loop-carrier-preserved g c =
     let m = g.S.Source.meaning c.args.source.now in
     let b = c.args.self.now in
-    let ss = take b.carriers b.standings in
+    let ss = take b.noted.carriers b.standings in
     let i = c.loop-carrier.carrier in
     let l = c.loop-carrier-test.true in
     let inv = c.loop-carrier.invariant in
@@ -72,5 +72,5 @@ returns g c =
     let m = g.S.Source.meaning c.args.source.now in
     let b = c.args.self.now in
     let inv = c.loop-carrier.invariant in
-    let all = take_all c.loop-carrier.carrier (take b.carriers b.standings) c.loop-carrier-test.false in
+    let all = take_all c.loop-carrier.carrier (take b.noted.carriers b.standings) c.loop-carrier-test.false in
     same_start m b c.loop-carrier.queues (inv.waits ∙ ap (gathered if_waiting 0) all) (inv.bids ∙ ap (gathered (if_bidding m b.lanes) 0) all)

@@ -36,7 +36,7 @@ respond-requires g c =
     record {
       few_jobs = omega (arith, (open_parts m b a.0).2, (consistent_in b).limits.few_jobs);
       low_prices = low_prices_in m b a.0;
-      few_summonses = (low_counts b.carriers b.jobs b.ceiling _ (consistent_in b)).low_summonses;
+      few_summonses = (low_counts b.noted.carriers b.noted.jobs b.noted.ceiling _ (consistent_in b)).low_summonses;
     }
 
 pub invariant_of-self : goal.invariant_of-self
@@ -55,7 +55,7 @@ returns g c =
           c.in_ok-admit.ensures c.respond.ensures.answered c.respond.ensures.stood c.respond.ensures.numbered;
       tallied = call_tallied m i c.args.act b c.respond.result c.respond.new.standing c.respond.new.counts
           c.in_ok-admit.ensures c.respond.ensures.answered c.respond.ensures.stood c.respond.ensures.numbered _ refl refl;
-      refused = λ e. same_books _ b refl refl refl refl refl refl refl refl
+      refused = λ e. same_books _ b refl refl refl refl refl
           (standing_kept m i c.args.act b c.respond.result c.respond.new.standing c.respond.new.counts
           c.in_ok-admit.ensures c.respond.ensures.answered c.respond.ensures.stood c.respond.ensures.numbered e)
           (counts_kept m i c.args.act b c.respond.result c.respond.new.standing c.respond.new.counts

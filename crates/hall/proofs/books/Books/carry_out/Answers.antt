@@ -17,7 +17,7 @@ bounds-self-carrier c = few_places c.args.self.now c.args.carrier c.requires.kno
 pub overflow_add-self : goal.overflow_add-self
 overflow_add-self c =
     let b = c.args.self.now in
-    let l : b.counts.outs ≤ 128 = (low_counts b.carriers b.jobs b.ceiling (tally_in b) (consistent_in b)).low_outs in
+    let l : b.counts.outs ≤ 128 = (low_counts b.noted.carriers b.noted.jobs b.noted.ceiling (tally_in b) (consistent_in b)).low_outs in
     search rules
 
 pub invariant_of-self : goal.invariant_of-self
@@ -39,7 +39,7 @@ bounds-self-carrier-in-Stale c = few_places c.args.self.now c.args.carrier c.req
 pub overflow_add-self-in-Stale : goal.overflow_add-self-in-Stale
 overflow_add-self-in-Stale c =
     let b = c.args.self.now in
-    let l : b.counts.stales ≤ 2 ^ 52 = (low_counts b.carriers b.jobs b.ceiling (tally_in b) (consistent_in b)).low_stales in
+    let l : b.counts.stales ≤ 2 ^ 52 = (low_counts b.noted.carriers b.noted.jobs b.noted.ceiling (tally_in b) (consistent_in b)).low_stales in
     search rules
 
 pub invariant_of-self-in-Stale : goal.invariant_of-self-in-Stale
@@ -65,16 +65,6 @@ pub bounds-self-award : goal.bounds-self-award
 bounds-self-award c =
     job_known c.args.self.now c.args.carrier c.args.bid c.args.verdict c.requires.known c.requires.bidding c.requires.ruled c.in-Awarded.award c.in-Awarded.is
 
-pub offset_bounds-self-award-in-Awarded : goal.offset_bounds-self-award-in-Awarded
-offset_bounds-self-award-in-Awarded c =
-    let l : c.in-Awarded.award.job < 256 =
-    job_known c.args.self.now c.args.carrier c.args.bid c.args.verdict c.requires.known c.requires.bidding c.requires.ruled c.in-Awarded.award c.in-Awarded.is in
-    search rules
-
-pub bounds-self-award-in-Awarded : goal.bounds-self-award-in-Awarded
-bounds-self-award-in-Awarded c =
-    job_known c.args.self.now c.args.carrier c.args.bid c.args.verdict c.requires.known c.requires.bidding c.requires.ruled c.in-Awarded.award c.in-Awarded.is
-
 pub offset_bounds-self-carrier-in-Awarded : goal.offset_bounds-self-carrier-in-Awarded
 offset_bounds-self-carrier-in-Awarded c = let l : c.args.carrier < 128 = few_places c.args.self.now c.args.carrier c.requires.known in search rules
 
@@ -84,7 +74,7 @@ bounds-self-carrier-in-Awarded c = few_places c.args.self.now c.args.carrier c.r
 pub overflow_add-self-in-Awarded : goal.overflow_add-self-in-Awarded
 overflow_add-self-in-Awarded c =
     let b = c.args.self.now in
-    let l : b.counts.awards ≤ 2 ^ 45 = (low_counts b.carriers b.jobs b.ceiling (tally_in b) (consistent_in b)).low_awards in
+    let l : b.counts.awards ≤ 2 ^ 45 = (low_counts b.noted.carriers b.noted.jobs b.noted.ceiling (tally_in b) (consistent_in b)).low_awards in
     search rules
 
 pub invariant_of-self-in-Awarded : goal.invariant_of-self-in-Awarded

@@ -17,4 +17,4 @@ pub bounds-self-job : goal.bounds-self-job
 bounds-self-job g c = known_job (g.S.Source.meaning c.args.source.now) c.args.self.now c.args.job c.in_ok-admit_job.ensures
 
 pub returns : goal.returns
-returns g c = holder_told (g.S.Source.meaning c.args.source.now) c.args.self.now c.args.job c.in_ok-admit_job.ensures
+returns g c = holder_told (g.S.Source.meaning c.args.source.now) c.args.self.now c.args.job c.in_ok-admit_job.ensures _

@@ -27,7 +27,7 @@ returns g c = record {
   tallied = settled_tally (g.S.Source.meaning c.args.source.now) c.args.carrier c.in_ok-bid.bid c.args.self.now c.call_on.new.self
       c.in_ok-bid.ensures.answered c.in_ok-bid.ensures.tallied c.judge-verdict.result c.judge-verdict.ensures
       c.carry_out.new.self
-      (record { started_is = c.carry_out.ensures.noted.started_is; carriers_is = c.carry_out.ensures.noted.carriers_is; jobs_is = c.carry_out.ensures.noted.jobs_is; ceiling_is = c.carry_out.ensures.noted.ceiling_is })
+      c.carry_out.ensures.noted
       c.carry_out.ensures.tallied;
   refused = search rules;
 }

@@ -15,4 +15,4 @@ returns g c =
     ap Ok c.total_worth.ensures ∙ sym (ap (worth_answer m) (open_tally m c.args.self.now (sym c.if-not-is_open.ensures)))
 
 pub total_worth-requires : goal.total_worth-requires
-total_worth-requires g c = omega (arith, worth_bound c.args.self.now c.args.self.now.carriers (omega arith))
+total_worth-requires g c = omega (arith, worth_bound c.args.self.now c.args.self.now.noted.carriers (omega arith))
