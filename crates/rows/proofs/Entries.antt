@@ -1,15 +1,13 @@
--- A row, entry by entry: the step of each loop over it.
-use Rattle.std.proofs.Common.{◌≡◌, ℕ, ◌+◌, ◌<◌, ◌≤◌, cond, eqb, List, [], length, get_or, take, drop, Some, None, sym, ap, ◌∙◌, arith, below_more}
-use Rattle.std.proofs.lemmas.List.{drop_more, at_drop_all}
-use Rattle.std.proofs.lemmas.List.Sums.{sum_by_more}
-use Rattle.std.proofs.lemmas.Bool.{cond-true, cond-false, eq-eqb, ne_eqb}
-use Rattle.sources.specs.Meaning.{Meaning, Rising, row_len, entry_at, worth_in}
-use Rattle.sources.proofs.Reading.{row_len_some, entry_past, rising_apart}
+-- A row, entry by entry: what is found in it, its total, and the step of the loop that looks for its best entry.
+use Rattle.std.proofs.Common.{◌≡◌, ℕ, ◌+◌, ◌*◌, ◌^◌, ◌<◌, ◌≤◌, eqb, List, [], ◌∷◌, ◌++◌, length, get_or, Some, None, Option, sym, refl, ap, ◌∙◌, subst, arith, rules, below_more}
+use Rattle.std.proofs.lemmas.List.{append_assoc, append-nil, length-append}
+use Rattle.std.proofs.Math.Seq.{get_or-append_seam}
+use Rattle.std.proofs.lemmas.List.Sums.{sum_by-cons}
+use Rattle.sources.specs.Meaning.{Rising, worth_in}
+use Rattle.std.specs.List.{find, AllByRecursion}
+use Rattle.std.specs.Option.{MatchOption, option_map, unwrap_or}
+use Rattle.sources.proofs.Reading.{rising_apart}
 use Rattle.rows.specs.Totals.{job_in, worth_at, worths, Best, BestIn}
-
--- each place below a row's length has an entry
-pub never_none : (m : Meaning) (i len k : ℕ) → Some len ≡ row_len m i → k < len → None ≡ entry_at m i k → ⊥
-never_none m i len k has l e = omega (arith, row_len_some m i len has, entry_past m i k e)
 
 module _ (row : List (ℕ × ℕ)) (k job worth : ℕ) (l : k < length row) (is : get_or row k (0, 0) ≡ (job, worth)) where
   job_is : job_in row k ≡ job
@@ -17,28 +15,6 @@ module _ (row : List (ℕ × ℕ)) (k job worth : ℕ) (l : k < length row) (is 
 
   worth_is : worth_at row k ≡ worth
   worth_is = ap (λ (e : ℕ × ℕ). e.1) is
-
-  -- ---- the worth of the job j, from what is left of the row
-
-  module _ (j : ℕ) (left : worth_in (drop k row) j ≡ worth_in row j) where
-    next : worth_in (drop k row) j ≡ cond (eqb job j) worth (worth_in (drop (k + 1) row) j)
-    next =
-        ap (λ es. worth_in es j) (drop_more row k (0, 0) l)
-        ∙ ap (λ (e : ℕ × ℕ). cond (eqb e.0 j) e.1 (worth_in (drop (k + 1) row) j)) is
-
-    pub found : job ≡ j → worth ≡ worth_in row j
-    found e = sym (cond-true (eqb job j) worth (worth_in (drop (k + 1) row) j) (eq-eqb job j e)) ∙ sym next ∙ left
-
-    pub passed : (job ≡ j → ⊥) → worth_in (drop (k + 1) row) j ≡ worth_in row j
-    passed ne = sym (cond-false (eqb job j) worth (worth_in (drop (k + 1) row) j) (ne_eqb job j ne)) ∙ sym next ∙ left
-
-  -- ---- the total
-
-  pub one_more : (total : ℕ) → total ≡ worths (take k row) → total + worth ≡ worths (take (k + 1) row)
-  one_more total was = omega (arith, sum_by_more (λ (e : ℕ × ℕ). e.1) row k (0, 0) l, worth_is)
-
-pub not_found : (row : List (ℕ × ℕ)) (k j : ℕ) → length row ≤ k → worth_in (drop k row) j ≡ worth_in row j → 0 ≡ worth_in row j
-not_found row k j l left = sym (at_drop_all (λ es. worth_in es j) row k l) ∙ left
 
 -- ---- the best of the first k entries; worth 0 says that there is none
 
@@ -85,5 +61,78 @@ module _ (row : List (ℕ × ℕ)) (k job worth : ℕ) (all : k ≡ length row) 
   pub no_best : worth ≤ 0 → BestIn row None
   no_best z i l = omega (arith, best.greatest i (omega arith))
 
-pub no_row_no_best : (row : List (ℕ × ℕ)) → row ≡ [] → BestIn row None
-no_row_no_best row e i l = absurd (omega (arith, ap length e))
+-- the worth of the first entry of a job, or 0 where it has none
+pub worth_found : (row : List (ℕ × ℕ)) (j : ℕ) → unwrap_or (option_map (λ (e : ℕ × ℕ). e.1) (find (λ (e : ℕ × ℕ). eqb e.0 j) row)) 0 ≡ worth_in row j
+worth_found [] j = refl
+worth_found (e ∷ row) j = grind (arith, worth_found row j)
+
+-- what a `map_or` with 0 makes of an entry that may have been found
+pub worth_or_zero : {P : ℕ × ℕ → Type 0} (r : Option (ℕ × ℕ)) (w : ℕ) → MatchOption r (w ≡ 0) P → ((e : ℕ × ℕ) → P e → w ≡ e.1) → w ≡ unwrap_or (option_map (λ (e : ℕ × ℕ). e.1) (option_map (λ e. e) r)) 0
+worth_or_zero None w m h = m
+worth_or_zero (Some e) w m h = h e m
+
+-- what may be the best so far, as an entry; of worth 0 where there is none
+abbrev pub entry_or_none : Option (ℕ × ℕ) → ℕ × ℕ
+entry_or_none None = (0, 0)
+entry_or_none (Some e) = e
+
+abbrev pub IsWorth : Option (ℕ × ℕ) → Type 0
+IsWorth best = MatchOption best (Unit {0}) (λ (e : ℕ × ℕ). 0 < e.1)
+
+-- the entries that were seen and those that are left are the row, and the best of those that were seen is known
+pub record BestSoFar (row seen left : List (ℕ × ℕ)) (best : Option (ℕ × ℕ)) : Type 0 where
+  pub parts : seen ++ left ≡ row
+  pub first : BestOfFirst row (length seen) (entry_or_none best).0 (entry_or_none best).1
+  pub worth : IsWorth best
+
+pub none_seen : (row left : List (ℕ × ℕ)) → left ≡ row → BestSoFar row [] left None
+none_seen row left e = record { parts = e; first = best_of_none row; worth = tt }
+
+module _ (row seen left after : List (ℕ × ℕ)) (job worth : ℕ) (best : Option (ℕ × ℕ)) (so_far : BestSoFar row seen left best) (step : left ≡ (job, worth) ∷ after) where
+  whole : seen ++ (job, worth) ∷ after ≡ row
+  whole = ap (λ es. seen ++ es) (sym step) ∙ so_far.parts
+
+  inside : length seen < length row
+  inside = omega (arith, sym (ap length whole) ∙ length-append seen ((job, worth) ∷ after))
+
+  is_next : get_or row (length seen) (0, 0) ≡ (job, worth)
+  is_next = sym (ap (λ es. get_or es (length seen) (0, 0)) whole) ∙ get_or-append_seam seen (job, worth) after (0, 0)
+
+  longer : length seen + 1 ≡ length (seen ++ (job, worth) ∷ [])
+  longer = sym (length-append seen ((job, worth) ∷ []))
+
+  parted : (seen ++ (job, worth) ∷ []) ++ after ≡ row
+  parted = append_assoc seen ((job, worth) ∷ []) after ∙ whole
+
+  pub takes_next : (entry_or_none best).1 < worth → BestSoFar row (seen ++ (job, worth) ∷ []) after (Some (job, worth))
+  takes_next more = record {
+    parts = parted;
+    first = subst (λ n. BestOfFirst row n job worth) longer (takes row (length seen) (entry_or_none best).0 (entry_or_none best).1 job worth inside is_next so_far.first more);
+    worth = omega arith;
+  }
+
+  pub keeps_best : Rising 0 row → worth ≤ (entry_or_none best).1 → BestSoFar row (seen ++ (job, worth) ∷ []) after best
+  keeps_best rises no_more = record {
+    parts = parted;
+    first = subst (λ n. BestOfFirst row n (entry_or_none best).0 (entry_or_none best).1) longer (keeps row (length seen) (entry_or_none best).0 (entry_or_none best).1 job worth inside is_next so_far.first rises no_more);
+    worth = so_far.worth;
+  }
+
+best_of_all : (row : List (ℕ × ℕ)) (best : Option (ℕ × ℕ)) → BestOfFirst row (length row) (entry_or_none best).0 (entry_or_none best).1 → IsWorth best → BestIn row best
+best_of_all row None b w = no_best row (length row) 0 0 refl b (omega arith)
+best_of_all row (Some (job, worth)) b w = best_is row (length row) job worth refl b w
+
+pub all_seen : (row seen left : List (ℕ × ℕ)) (best : Option (ℕ × ℕ)) → BestSoFar row seen left best → left ≡ [] → BestIn row best
+all_seen row seen left best b none =
+    let all : seen ≡ row = sym (append-nil seen) ∙ ap (λ es. seen ++ es) (sym none) ∙ b.parts in
+    best_of_all row best (subst (λ es. BestOfFirst row (length es) (entry_or_none best).0 (entry_or_none best).1) all b.first) b.worth
+
+-- what a `map_or` with 0 makes of the best so far
+pub most_is : {P : ℕ × ℕ → Type 0} (best : Option (ℕ × ℕ)) (most : ℕ) → MatchOption best (most ≡ 0) P → ((e : ℕ × ℕ) → P e → most ≡ e.1) → most ≡ (entry_or_none best).1
+most_is None most m h = m
+most_is (Some e) most m h = h e m
+
+-- a row whose worths are at most 2 ^ 60 sums to no more than its length times that
+pub worths_within : (top : ℕ) → top ≤ 2 ^ 60 → (row : List (ℕ × ℕ)) → AllByRecursion (λ (e : ℕ × ℕ). e.1 ≤ top) row → worths row ≤ length row * 2 ^ 60
+worths_within top small [] a = search rules
+worths_within top small (e ∷ row) a = let h = a.0 in omega (arith, h, sum_by-cons (λ (x : ℕ × ℕ). x.1) e row, worths_within top small row a.1)

@@ -7,6 +7,7 @@ ghost use Rattle.sources.specs.Meaning.{row_of, worth_of};
 ghost use Rattle.sources.specs.Layers.{floored, floor_of, scaled, times_of, FloorThenTimes};
 ghost use Rattle.rows.specs.Totals.{row_total, BestIn};
 
+use sources::asking::entries;
 use sources::floor::Floor;
 use sources::source::Source;
 use sources::times::Times;
@@ -15,30 +16,19 @@ use sources::times::Times;
 pub fn worth_of<S: Source>(source: &S, carrier: usize, job: usize) -> u64
     ensures { result ≡ worth_of (S.Source.meaning source.now) carrier job }
 {
-    let Some(len) = source.row_len(carrier) else {
-        return 0;
-    };
-    for k in 0..len {
-        if let Some((found, worth)) = source.entry(carrier, k) {
-            if found == job {
-                return worth;
-            }
-        }
-    }
-    0
+    entries(source, carrier)
+        .find(|(found, _)| *found == job)
+        .map_or(0, |(_, worth)| worth)
 }
 
 // The sum of the worths of a carrier's row; `None` past the last carrier.
 pub fn row_total<S: Source>(source: &S, carrier: usize) -> Option<u128>
     ensures { result ≡ row_total (S.Source.meaning source.now) carrier }
 {
-    let len = source.row_len(carrier)?;
-    let mut total = 0;
-    for k in 0..len {
-        if let Some((_, worth)) = source.entry(carrier, k) {
-            total += u128::from(worth);
-        }
-    }
+    source.row_len(carrier)?;
+    let total = entries(source, carrier)
+        .map(|(_, worth)| u128::from(worth))
+        .sum();
     Some(total)
 }
 
@@ -47,16 +37,13 @@ pub fn row_total<S: Source>(source: &S, carrier: usize) -> Option<u128>
 pub fn best_entry<S: Source>(source: &S, carrier: usize) -> Option<(usize, u64)>
     ensures { BestIn (row_of (S.Source.meaning source.now) carrier) result }
 {
-    let len = source.row_len(carrier)?;
-    let mut best = (0, 0);
-    for k in 0..len {
-        if let Some((job, worth)) = source.entry(carrier, k) {
-            if worth > best.1 {
-                best = (job, worth);
-            }
+    let mut best: Option<(usize, u64)> = None;
+    for (job, worth) in entries(source, carrier) {
+        if worth > best.map_or(0, |(_, most)| most) {
+            best = Some((job, worth));
         }
     }
-    if best.1 > 0 { Some(best) } else { None }
+    best
 }
 
 // What a job is worth to a carrier through a floor layer with a times layer above it: through the floor first, and

@@ -1,48 +1,29 @@
-use Rattle.std.proofs.Common.{ℕ, ◌+◌, sym, subst, arith}
+use Rattle.std.proofs.Common.{◌∙◌, ap, drop, arith, rules, tests}
 use Rattle.sources.specs.Meaning.{row_of}
-use Rattle.sources.proofs.Reading.{row_len_some, row_len_none, row_rising, entry_read}
-use Rattle.rows.specs.Totals.{BestIn}
-use Rattle.rows.proofs.Entries.{never_none, BestOfFirst, best_of_none, takes, keeps, best_is, no_best, no_row_no_best}
+use Rattle.sources.proofs.Reading.{row_rising}
+use Rattle.rows.proofs.Entries.{none_seen, takes_next, keeps_best, all_seen, most_is}
 use Rattle.rows.proofs.best_entry.Goals as goal
-use Rattle.rows.proofs.best_entry.Goals.{in-Some+then-worth-best, in-Some+else-worth-best, in_default}
 
-pub returns-in_err-len : goal.returns-in_err-len
-returns-in_err-len g c =
+pub loop-job-init : goal.loop-job-init
+loop-job-init g c =
+    let row = row_of (g.S.Source.meaning c.args.source.now) c.args.carrier in
+    none_seen row _ (ap (λ s. drop s.places.start (row_of (g.S.Source.meaning s.source.now) s.carrier)) c.into_iter-job-iterator.ensures.into_iter_gives ∙ c.entries-job-items.ensures)
+
+pub loop-job-preserved-then-worth-map_or : goal.loop-job-preserved-then-worth-map_or
+loop-job-preserved-then-worth-map_or g c =
+    let row = row_of (g.S.Source.meaning c.args.source.now) c.args.carrier in
+    let most = most_is c.loop-job.best c.map_or.result c.map_or.ensures (λ e k. search (rules, tests)) in
+    takes_next row c.loop-job.yielded _ _ c.in-Some.job c.in-Some.worth c.loop-job.best c.loop-job.invariant c.in-Some.ensures.steps (omega (arith, most, c.if-worth-map_or.true))
+
+pub loop-job-preserved : goal.loop-job-preserved
+loop-job-preserved g c =
     let m = g.S.Source.meaning c.args.source.now in
     let row = row_of m c.args.carrier in
-    subst (BestIn row) (sym c.from_residual.ensures) (no_row_no_best row (row_len_none m c.args.carrier c.in_err-len.ensures))
+    let most = most_is c.loop-job.best c.map_or.result c.map_or.ensures (λ e k. search (rules, tests)) in
+    keeps_best row c.loop-job.yielded _ _ c.in-Some.job c.in-Some.worth c.loop-job.best c.loop-job.invariant c.in-Some.ensures.steps
+    (row_rising m (g.S.Source.sound c.args.source.now) c.args.carrier) (omega (arith, most, c.if-worth-map_or.false))
 
-pub loop-k-init : goal.loop-k-init
-loop-k-init g c = best_of_none (row_of (g.S.Source.meaning c.args.source.now) c.args.carrier)
-
-pub loop-k-preserved : goal.loop-k-preserved
-loop-k-preserved g c =
-    let m = g.S.Source.meaning c.args.source.now in
-    let i = c.args.carrier in
-    let k = c.loop-k.k in
-    let best = c.loop-k.best in
-    let long = row_len_some m i c.in_ok-len.len c.in_ok-len.ensures in
-    elim c.match-entry.branch [
-      | in-Some+then-worth-best w ↦
-          let at = w.in-Some in
-          subst (λ (b : ℕ × ℕ). BestOfFirst (row_of m i) (k + 1) b.0 b.1) (sym w.best-is)
-          (takes (row_of m i) k best.0 best.1 at.job at.worth (omega (arith, long)) (entry_read m i k (at.job, at.worth) at.ensures) c.loop-k.invariant w.if-worth-best.true)
-      | in-Some+else-worth-best w ↦
-          let at = w.in-Some in
-          subst (λ (b : ℕ × ℕ). BestOfFirst (row_of m i) (k + 1) b.0 b.1) (sym w.best-is)
-          (keeps (row_of m i) k best.0 best.1 at.job at.worth (omega (arith, long)) (entry_read m i k (at.job, at.worth) at.ensures) c.loop-k.invariant
-          (row_rising m (g.S.Source.sound c.args.source.now) i) w.if-worth-best.false)
-      | in_default w ↦ absurd (never_none m i c.in_ok-len.len k c.in_ok-len.ensures c.loop-k-test.true w.in_default.ensures)
-    ]
-
-pub returns-then-best-gt0 : goal.returns-then-best-gt0
-returns-then-best-gt0 g c =
-    let m = g.S.Source.meaning c.args.source.now in
-    best_is (row_of m c.args.carrier) c.loop-k.k c.loop-k.best.0 c.loop-k.best.1
-    (omega (arith, row_len_some m c.args.carrier c.in_ok-len.len c.in_ok-len.ensures)) c.loop-k.invariant c.if-best-gt0.true
-
-pub returns-else-best-gt0 : goal.returns-else-best-gt0
-returns-else-best-gt0 g c =
-    let m = g.S.Source.meaning c.args.source.now in
-    no_best (row_of m c.args.carrier) c.loop-k.k c.loop-k.best.0 c.loop-k.best.1
-    (omega (arith, row_len_some m c.args.carrier c.in_ok-len.len c.in_ok-len.ensures)) c.loop-k.invariant c.if-best-gt0.false
+pub returns : goal.returns
+returns g c =
+    let row = row_of (g.S.Source.meaning c.args.source.now) c.args.carrier in
+    all_seen row c.loop-job.yielded _ c.loop-job.best c.loop-job.invariant c.in-None.ensures.steps.0

@@ -1,33 +1,32 @@
-use Rattle.std.proofs.Common.{◌+◌, Some, sym, ap, ◌∙◌, arith}
+use Rattle.std.proofs.Common.{ℕ, Some, drop, sym, ap, ◌∙◌, arith, rules, tests}
 use Rattle.std.specs.Option.{option_map}
-use Rattle.std.proofs.lemmas.List.{take_all}
+use Rattle.std.proofs.lemmas.Iterator.{YieldsList-from_map}
+use Rattle.std.proofs.lemmas.Iterator.Consumers.{YieldsList-at, YieldsList-from_first, sum_by_from_yields_List, fits_by_from_yields_list}
 use Rattle.sources.specs.Meaning.{row_of}
-use Rattle.sources.proofs.Reading.{row_len_some, row_there, entry_read, entry_within}
+use Rattle.sources.proofs.Reading.{row_there, row_len_some, row_within}
 use Rattle.rows.specs.Totals.{worths}
-use Rattle.rows.proofs.Entries.{never_none, one_more}
+use Rattle.rows.proofs.Entries.{worths_within}
 use Rattle.rows.proofs.row_total.Goals as goal
-use Rattle.rows.proofs.row_total.Goals.{in-Some, in_default}
 
-pub loop-k-preserved : goal.loop-k-preserved
-loop-k-preserved g c =
+pub sum-total-requires-clause-fits : goal.sum-total-requires-clause-fits
+sum-total-requires-clause-fits g c =
     let m = g.S.Source.meaning c.args.source.now in
     let sound = g.S.Source.sound c.args.source.now in
     let i = c.args.carrier in
-    let k = c.loop-k.k in
-    elim c.match-entry.branch [
-      | in-Some w ↦
-          let at = w.in-Some in
-          let top = entry_within m sound i k at.field-0-0 at.worth at.ensures in
-          let more = one_more (row_of m i) k at.field-0-0 at.worth (omega (arith, row_len_some m i c.in_ok-len.len c.in_ok-len.ensures))
-          (entry_read m i k (at.field-0-0, at.worth) at.ensures) c.loop-k.total c.loop-k.invariant.0 in
-          (w.total-is ∙ ap (λ n. c.loop-k.total + n) w.from-total.ensures ∙ more, omega (arith, top, sound.small))
-      | in_default w ↦ absurd (never_none m i c.in_ok-len.len k c.in_ok-len.ensures c.loop-k-test.true w.in_default.ensures)
-    ]
+    fits_by_from_yields_list (λ (e : ℕ × ℕ). e.1) (row_of m i) c.map.result _
+    (YieldsList-from_map _ (λ (e : ℕ × ℕ). e.1)
+    (YieldsList-at c.map.ensures.source
+    (YieldsList-from_first (λ x. x) (λ s. drop s.places.start (row_of (g.S.Source.meaning s.source.now) s.carrier)) {s = c.entries.result} _ c.entries.ensures))
+    c.map.ensures.closure (λ x r q k. search (rules, tests)))
+    (omega (arith, worths_within m.ceiling sound.small (row_of m i) (row_within m sound i), row_len_some m i c.in_ok-row_len.field-0 c.in_ok-row_len.ensures))
 
 pub returns : goal.returns
 returns g c =
     let m = g.S.Source.meaning c.args.source.now in
     let i = c.args.carrier in
-    let has = c.in_ok-len.ensures in
-    ap Some (c.loop-k.invariant.0 ∙ ap worths (take_all c.loop-k.k (row_of m i) (omega (arith, row_len_some m i c.in_ok-len.len has))))
-    ∙ sym (ap (option_map worths) (row_there m i c.in_ok-len.len has))
+    let total = sum_by_from_yields_List (λ (e : ℕ × ℕ). e.1) (row_of m i) c.map.result c.sum-total.result c.sum-total.ensures.ran
+    (YieldsList-from_map _ (λ (e : ℕ × ℕ). e.1)
+    (YieldsList-at c.map.ensures.source
+    (YieldsList-from_first (λ x. x) (λ s. drop s.places.start (row_of (g.S.Source.meaning s.source.now) s.carrier)) {s = c.entries.result} _ c.entries.ensures))
+    c.map.ensures.closure (λ x r q k. search (rules, tests))) in
+    ap Some total ∙ sym (ap (option_map worths) (row_there m i c.in_ok-row_len.field-0 c.in_ok-row_len.ensures))
