@@ -1,6 +1,10 @@
 -- What the checks of a sheet come to, place by place.
 use Rattle.std.proofs.Common.{◌≡◌, ℕ, zero, suc, ◌+◌, ◌-◌, ◌<◌, ◌≤◌, Bool, true, false, ◌&&◌, ◌||◌, eqb, ltb, leb, List, length, get_or, Some, None, Option, sym, refl, ap, ◌∙◌, subst, ⊎_elim, add-zero, zero-add, arith}
-use Rattle.std.specs.List.{IsAnyAnswer}
+use Rattle.std.specs.Bool.{MatchBool}
+use Rattle.std.specs.List.{IsAnyAnswer, IsAllAdjacentAnswer}
+use Rattle.std.specs.List.Sorted.{IsNonDecreasing}
+use Rattle.std.specs.Ordering.{is_le, is_some_and, nat_cmp}
+use Rattle.std.proofs.lemmas.List.Sorted.{non_decreasing_from_is_sorted}
 use Rattle.std.proofs.lemmas.List.Elements.{contains_decides}
 use Rattle.std.proofs.lemmas.Bool.{both_ways, eq-eqb, le-ltb, cases_Bool}
 use Rattle.std.proofs.lemmas.Bool.Decides.{same_from_decides, Decides-eqb}
@@ -46,6 +50,25 @@ pub starts_rise : (h : Heading) (starts : List ℕ) (count : ℕ) → length sta
 starts_rise h starts count long first rises =
     all_but (eqb (length starts) (h.carriers + 1)) (eqb (get_or starts 0 0) 0) (never_falls starts h.carriers) (leb (last_of h starts) count)
     (eq-eqb _ _ long) (eq-eqb _ _ first) ((never_falls_lem starts h.carriers).1 rises)
+
+-- the same, from what the library's test for order answered
+abbrev pub IsOrderAnswer : List ℕ → Bool → Type 0
+IsOrderAnswer starts r = IsAllAdjacentAnswer (λ x y b. is_some_and is_le (Some (nat_cmp x y)) ≡ b) starts r
+
+module _ (h : Heading) (starts : List ℕ) (count : ℕ) (long : length starts ≡ h.carriers + 1) where
+  in_order_is : (r : Bool) → MatchBool r (IsNonDecreasing starts) ((k : ℕ) × (k + 1 < length starts) × ((d : ℕ) → get_or starts (k + 1) d < get_or starts k d)) → r ≡ true → get_or starts 0 0 ≡ 0 → leb (last_of h starts) count ≡ starts_good h starts count
+  in_order_is true sorted is first = starts_rise h starts count long first (λ k l. sorted k (k + 1) 0 (omega arith) (omega arith))
+  in_order_is false sorted is first = absurd (both_ways false refl is)
+
+  not_in_order : (r : Bool) → MatchBool r (IsNonDecreasing starts) ((k : ℕ) × (k + 1 < length starts) × ((d : ℕ) → get_or starts (k + 1) d < get_or starts k d)) → r ≡ false → r ≡ starts_good h starts count
+  not_in_order true sorted is = absurd (both_ways true is refl)
+  not_in_order false sorted is = starts_fall h starts count sorted.0 (omega (arith, sorted.1)) (sorted.2 0)
+
+  pub starts_in_order : (r : Bool) → IsOrderAnswer starts r → r ≡ true → get_or starts 0 0 ≡ 0 → leb (last_of h starts) count ≡ starts_good h starts count
+  starts_in_order r answer = in_order_is r (non_decreasing_from_is_sorted starts r answer)
+
+  pub starts_not_in_order : (r : Bool) → IsOrderAnswer starts r → r ≡ false → r ≡ starts_good h starts count
+  starts_not_in_order r answer = not_in_order r (non_decreasing_from_is_sorted starts r answer)
 
 first_from : (f : ℕ → Option Refusal) (a n d : ℕ) (r : Refusal) → ((j : ℕ) → j < d → f (a + j) ≡ None) → d < n → f (a + d) ≡ Some r → first_refusal f a n ≡ Some r
 first_from f a zero d r before l e = absurd (omega arith)

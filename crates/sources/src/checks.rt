@@ -31,12 +31,7 @@ fn starts_good(heading: Heading, starts: &[usize], count: usize) -> bool
     if starts.len() != heading.carriers + 1 || starts[0] != 0 {
         return false;
     }
-    for i in 0..heading.carriers {
-        if starts[i] > starts[i + 1] {
-            return false;
-        }
-    }
-    starts[heading.carriers] <= count
+    starts.is_sorted() && starts[heading.carriers] <= count
 }
 
 // Whether the entry at k begins its row, or its job is above that of the entry before it.
@@ -51,6 +46,7 @@ fn in_order(starts: &[usize], entries: &[Entry], k: usize) -> bool
 fn entry_refusal(heading: Heading, starts: &[usize], entries: &[Entry]) -> Option<Refusal>
     ensures { result ≡ entry_refusal heading starts.now entries.now }
 {
+    // A rule of the project keeps this a loop over the entry table with its index.
     for (k, entry) in entries.iter().enumerate() {
         if entry.job >= heading.jobs || !in_order(starts, entries, k) {
             return Some(Refusal::JobOutOfOrder);
@@ -72,8 +68,5 @@ pub(crate) fn verdict(heading: Heading, starts: &[usize], entries: &[Entry]) -> 
     if !starts_good(heading, starts, entries.len()) {
         return Err(Refusal::StartsUnfit);
     }
-    match entry_refusal(heading, starts, &entries[0..starts[heading.carriers]]) {
-        Some(refusal) => Err(refusal),
-        None => Ok(()),
-    }
+    entry_refusal(heading, starts, &entries[0..starts[heading.carriers]]).map_or(Ok(()), Err)
 }

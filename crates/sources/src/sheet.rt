@@ -11,6 +11,7 @@ use crate::source::Source;
 pub mod filling;
 
 // Row i is the entries from start i up to, and without, start i + 1. What filling checked holds of every sheet.
+// Two lent tables and no vector of rows: no heap is used here.
 #[derive(Drop)]
 pub struct Sheet<'a> {
     heading: Heading,

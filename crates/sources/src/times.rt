@@ -7,6 +7,7 @@ use crate::source::Source;
 
 const HIGHEST_WORTH: u64 = 1 << 60;
 
+// A struct of its own beside `Floor`: a rule of the project wants each layer as a plain value with its own impl.
 #[derive(Drop)]
 pub struct Times<S> {
     pub below: S,

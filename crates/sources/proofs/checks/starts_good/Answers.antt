@@ -1,11 +1,10 @@
-use Rattle.std.proofs.Common.{arith}
-use Rattle.sources.proofs.Refusing.{starts_fall, starts_rise}
+use Rattle.sources.proofs.Refusing.{starts_in_order, starts_not_in_order}
 use Rattle.sources.proofs.checks.starts_good.Goals as goal
 
-pub returns-then-starts-i : goal.returns-then-starts-i
-returns-then-starts-i c = starts_fall c.args.heading c.args.starts.now c.args.count c.loop-i.i c.loop-i-test.true c.if-starts-i.true
+pub returns-then-is_sorted : goal.returns-then-is_sorted
+returns-then-is_sorted c =
+    starts_in_order c.args.heading c.args.starts.now c.args.count c.if-starts-heading.false c.is_sorted.result c.is_sorted.ensures.cases c.if-is_sorted.true c.if-starts-ne0.false
 
-pub returns : goal.returns
-returns c =
-    starts_rise c.args.heading c.args.starts.now c.args.count c.if-starts-heading.false c.if-starts-ne0.false
-    (λ k l. c.loop-i.invariant k (omega arith))
+pub returns-else-is_sorted : goal.returns-else-is_sorted
+returns-else-is_sorted c =
+    starts_not_in_order c.args.heading c.args.starts.now c.args.count c.if-starts-heading.false c.is_sorted.result c.is_sorted.ensures.cases c.if-is_sorted.false
