@@ -3,6 +3,7 @@ use Rattle.std.proofs.Common.{◌≡◌, ℕ, ◌+◌, ◌<◌, ◌≤◌, true,
 use Rattle.std.proofs.lemmas.List.{length-map, take_at}
 use Rattle.std.proofs.lemmas.Bool.{cases_lt, cond-false, cond-true, le-ltb, lt-ltb}
 use Rattle.std.specs.List.{AllByRecursion}
+use Rattle.numbers.specs.Writing.{over}
 use Rattle.refusals.specs.declared.Refusal.{Refusal}
 use Rattle.refusals.specs.declared.Refusal.TheVariants.{CountsOutside, TooShort}
 use Rattle.sources.specs.Meaning.{Meaning, Rising, Sound}
@@ -12,7 +13,7 @@ use Rattle.sources.specs.declared.form.Heading.{Heading}
 use Rattle.sheetfile.specs.Laws.{WritesLoadable}
 use Rattle.sheetfile.specs.Layout.{Row, SheetFile}
 use Rattle.sheetfile.specs.Steps.{room_for}
-use Rattle.sheetfile.specs.Writing.{Writes, nonzero, without_zeros, write_answer, written}
+use Rattle.sheetfile.specs.Writing.{nonzero, without_zeros, write_answer, written}
 use Rattle.sheetfile.proofs.Bounds.{RowIn, fillable, limits}
 use Rattle.sheetfile.proofs.Exact.{file_back}
 use Rattle.sheetfile.proofs.Steps.{room_there}
@@ -50,10 +51,7 @@ no_zeros_in h [] r = refl
 no_zeros_in h (row ∷ rows) r = ap (λ x. x ∷ map nonzero rows) (no_zeros h 0 row r.0) ∙ ap (λ l. row ∷ l) (no_zeros_in h rows r.1)
 
 -- a source that was written, where there is room for it
-module _ (m : Meaning) (s : Sound m) (is : within_limits (heading_of m) ≡ true) (out out' : List ℕ) (n : ℕ) (put : Writes out out' 0 n (written m)) (room : n ≤ length out) where
-  long : n ≡ length (written m)
-  long = let e = put.0 in omega arith
-
+module _ (m : Meaning) (s : Sound m) (is : within_limits (heading_of m) ≡ true) (out out' : List ℕ) (n : ℕ) (long : n ≡ length (written m)) (room : n ≤ length out) (put : out' ≡ over out 0 (written m)) where
   pub accepted : write_answer m (length out) ≡ Ok n
   accepted =
       cond-true (within_limits (heading_of m)) (room_for TooShort (length (written m)) (length out) (length (written m))) (Err CountsOutside) is
@@ -62,10 +60,7 @@ module _ (m : Meaning) (s : Sound m) (is : within_limits (heading_of m) ≡ true
   front : (k : ℕ) → ◌≡◌ {A = Result ℕ Refusal} (Ok n) (Ok k) → SheetFile (take k out') (without_zeros m)
   front k same =
       let e : k ≡ length (written m) = sym (let q : n ≡ k = cc in q) ∙ long in
-      record {
-        bounded = written_in m s is;
-        bytes_are = ap (take k) (put.1 room) ∙ take_at (written m) (drop (0 + length (written m)) out) k (sym e);
-      }
+      record { bounded = written_in m s is; bytes_are = ap (take k) put ∙ take_at (written m) (drop (0 + length (written m)) out) k (sym e) }
 
   pub written_loads : WritesLoadable m (Ok n) out'
   written_loads = record { file = front; loads = λ k starts room' same enough. file_back (take k out') starts room' (without_zeros m) (front k same) enough }

@@ -1,8 +1,8 @@
 -- Bytes put one after another, and rows read through a source.
 use Rattle.std.proofs.Common.{◌≡◌, ℕ, suc, ◌+◌, ◌*◌, ◌^◌, ◌<◌, ◌≤◌, Bool, true, false, cond, ltb, leb, List, [], ◌∷◌, ◌++◌, map, length, get_or, take, None, Ok, Err, Result, sym, refl, ap, ◌∙◌, subst, ⊎_elim, arith}
 use Rattle.std.proofs.lemmas.List.Elements.{filter_more}
-use Rattle.std.proofs.ByRecursion.{All-from_get_or}
-use Rattle.std.proofs.lemmas.List.{append-nil, get_or_past, flat_map_more, length-append, length_push, map_more, take_more}
+use Rattle.std.proofs.ByRecursion.{All-from_get_or, All-take}
+use Rattle.std.proofs.lemmas.List.{append-nil, get_or_past, flat_map_more, length-append, length-take-le, length_push, map_more, take_more}
 use Rattle.std.proofs.lemmas.Bool.{and_from, cases_lt, cond_both, cond-false, cond-true, le-leb, le-ltb, lt-ltb}
 use Rattle.std.specs.List.{flat_map, AllByRecursion}
 use Rattle.refusals.specs.declared.Refusal.{Refusal}
@@ -12,11 +12,13 @@ use Rattle.numbers.specs.Groups.{encoded}
 use Rattle.numbers.specs.Writing.{fits_at, write_at}
 use Rattle.sources.proofs.Reading.{entry_past, row_known, row_len_none, row_length, row_within}
 use Rattle.sources.specs.Meaning.{Meaning, Sound, entry_at, row_len, row_of}
+use Rattle.sources.specs.Sheets.{within_limits}
+use Rattle.sources.specs.Tables.{heading_of}
 use Rattle.sources.specs.declared.form.Heading.{Heading}
 use Rattle.sheetfile.specs.Layout.{Row, entries_in, entry_bytes, heading_bytes, row_bytes}
 use Rattle.numbers.specs.Writing.{over}
-use Rattle.sheetfile.specs.Writing.{Writes, nonzero, nonzero_bytes}
-use Rattle.sheetfile.proofs.Bounds.{HeadingIn}
+use Rattle.sheetfile.specs.Writing.{Writes, nonzero, nonzero_bytes, written}
+use Rattle.sheetfile.proofs.Bounds.{HeadingIn, limits}
 use Rattle.sheetfile.proofs.Overs.{over_none, over-over}
 use Rattle.sheetfile.proofs.Sheets.{entries_push}
 
@@ -41,15 +43,11 @@ number_err : (b : Bool) (d : Refusal) (k : ℕ) (e : Refusal) → ◌≡◌ {A =
 number_err true d k e is yes' = let z : ◌≡◌ {A = ℕ} 0 1 = cc in omega arith
 number_err false d k e is yes' = let z : ◌≡◌ {A = ℕ} 0 1 = cc in omega arith
 
-pub number_there : (out out' : List ℕ) (at n next : ℕ) → Ok next ≡ write_at (length out) at n → out' ≡ over out at (encoded n) → Writes out out' at next (encoded n)
-number_there out out' at n next is put = (number_ok (fits_at (length out) at n) next (at + length (encoded n)) TooShort is, λ _. put)
-
-pub number_not : (out out' : List ℕ) (at n next : ℕ) (e : Refusal) → n < 2 ^ 42 → Err e ≡ write_at (length out) at n → next ≡ at + length (encoded n) → Writes out out' at next (encoded n)
-number_not out out' at n next e small is long = (
-  long,
-  λ room. absurd (number_err (fits_at (length out) at n) e (at + length (encoded n)) TooShort is
-      (and_from (leb (length (encoded n)) 6) (leb (at + length (encoded n)) (length out)) (le-leb (length (encoded n)) 6 (encoded_short n small)) (le-leb (at + length (encoded n)) (length out) (omega arith)))),
-)
+-- six places are room for such a number
+pub never_refused : (n : ℕ) (e : Refusal) → n < 2 ^ 42 → Err e ≡ write_at 6 0 n → ⊥
+never_refused n e small is =
+    let short = encoded_short n small in
+    number_err (fits_at 6 0 n) e (0 + length (encoded n)) TooShort is (and_from (leb (length (encoded n)) 6) (leb (0 + length (encoded n)) 6) (le-leb (length (encoded n)) 6 short) (le-leb (0 + length (encoded n)) 6 (omega arith)))
 
 -- nothing, and one after another
 pub writes_none : (out : List ℕ) (at : ℕ) → Writes out out at at []
@@ -159,3 +157,29 @@ module _ (rows : List Row) (i : ℕ) (inside : i < length rows) where
 
   pub entries_more : entries_in (map nonzero (take i rows)) + length (nonzero (get_or rows i [])) ≡ entries_in (map nonzero (take (i + 1) rows))
   entries_more = sym (ap entries_in next_row_lem ∙ entries_push (map nonzero (take i rows)) (nonzero (get_or rows i [])))
+
+-- a source within the limits of a sheet
+module _ (m : Meaning) (s : Sound m) (is : within_limits (heading_of m) ≡ true) where
+  within : HeadingIn (heading_of m)
+  within = limits (heading_of m) is
+
+  light : AllByRecursion Light m.rows
+  light = rows_light m s (within.jobs_high) (within.ceiling_high)
+
+  pub total_few : (i : ℕ) → i ≤ m.carriers → entries_in (map nonzero (take i m.rows)) ≤ 32768
+  total_few i inside = omega (arith, entries_few (take i m.rows) (All-take Light i m.rows light), length-take-le i m.rows (omega (arith, s.counted)), within.carriers_high)
+
+  pub written_short : length (written m) < 2 ^ 42
+  written_short =
+      let file = flat_map row_bytes (map nonzero m.rows) in
+      let total = entries_in (map nonzero m.rows) in
+      omega (
+        arith,
+        length-append (heading_bytes (heading_of m)) (flat_map row_bytes (map nonzero m.rows) ++ encoded (entries_in (map nonzero m.rows))),
+        length-append (flat_map row_bytes (map nonzero m.rows)) (encoded (entries_in (map nonzero m.rows))),
+        heading_short (heading_of m) within,
+        file_short m.rows light,
+        encoded_short (entries_in (map nonzero m.rows)) (omega (arith, entries_few m.rows light, s.counted, within.carriers_high)),
+        s.counted,
+        within.carriers_high,
+      )
