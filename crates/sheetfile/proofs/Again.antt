@@ -64,10 +64,3 @@ module _ (m : Meaning) (s : Sound m) (is : within_limits (heading_of m) ≡ true
 
   pub written_loads : WritesLoadable m (Ok n) out'
   written_loads = record { file = front; loads = λ k starts room' same enough. file_back (take k out') starts room' (without_zeros m) (front k same) enough }
-
-pub never_loads : (m : Meaning) (e : Refusal) (out : List ℕ) → WritesLoadable m (Err e) out
-never_loads m e out =
-    record {
-      file = λ n is. absurd (let z : ◌≡◌ {A = ℕ} 0 1 = cc in omega arith);
-      loads = λ n starts room is enough. absurd (let z : ◌≡◌ {A = ℕ} 0 1 = cc in omega arith);
-    }

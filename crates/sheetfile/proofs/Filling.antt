@@ -1,5 +1,5 @@
 -- What a load accepts, and a file that is written again.
-use Rattle.std.proofs.Common.{◌≡◌, ℕ, ◌+◌, ◌≤◌, Bool, true, false, cond, leb, List, length, get_or, take, drop, Ok, Err, Result, sym, refl, ap, ◌∙◌, subst, arith, w8, Fits}
+use Rattle.std.proofs.Common.{◌≡◌, ℕ, ◌+◌, Bool, true, false, cond, leb, List, length, get_or, take, drop, Ok, Err, Result, sym, refl, ap, ◌∙◌, subst, arith, w8, Fits}
 use Rattle.std.proofs.lemmas.List.{take_at}
 use Rattle.std.proofs.lemmas.Bool.{cond-true}
 use Rattle.refusals.specs.Faults.{fault_of}
@@ -79,15 +79,6 @@ module _ (bs starts : List ℕ) (entries : List Entry) (typed : (i : ℕ) → Fi
   module _ (h : Heading) (told : Ok h ≡ heading_answer (loaded bs (length starts) (length entries))) where
     pub whole : (m : Meaning) × (loaded bs (length starts) (length entries) ≡ Ok m) × (h ≡ heading_of m)
     whole = heading_ok (loaded bs (length starts) (length entries)) h told
-
-    pub whole_file : SheetFile bs whole.0
-    whole_file = file whole.0 whole.1
-
-    pub carriers_few : h.carriers ≤ 128
-    carriers_few = omega (arith, ap (λ (x : Heading). x.carriers) whole.2, (bounded whole.0 (file whole.0 whole.1).bounded).headed.carriers_high)
-
-    pub starts_long : h.carriers + 1 ≤ length starts
-    starts_long = omega (arith, ap (λ (x : Heading). x.carriers) whole.2, (file_read bs typed (length starts) (length entries) whole.0 whole.1).1.starts_fit)
 
     pub means_whole : sheet_of h (take (h.carriers + 1) starts') entries' ≡ whole.0
     means_whole = subst (λ (x : Heading). sheet_of x (take (x.carriers + 1) starts') entries' ≡ whole.0) (sym whole.2) (fills_sheet whole.0 whole.1).1

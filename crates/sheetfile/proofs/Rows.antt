@@ -1,18 +1,16 @@
 -- The steps of a loop that reads a row.
-use Rattle.std.proofs.Common.{◌≡◌, ℕ, zero, suc, ◌+◌, ◌-◌, ◌<◌, ◌≤◌, cond, ◌&&◌, ltb, leb, List, [], ◌∷◌, ◌++◌, map, length, take, set, Ok, Err, Result, sym, refl, ap, ◌∙◌, subst, arith}
+use Rattle.std.proofs.Common.{◌≡◌, ℕ, zero, suc, ◌+◌, ◌-◌, ◌<◌, ◌≤◌, List, [], ◌∷◌, ◌++◌, map, length, take, set, Ok, Err, Result, sym, refl, ap, ◌∙◌, subst, arith}
 use Rattle.std.proofs.lemmas.List.{append_assoc, length-map, length_push, length-set, map_push, take_all, take-append-le, take_more_set}
-use Rattle.refusals.specs.Faults.{fault_at}
 use Rattle.refusals.specs.declared.Fault.{Fault}
-use Rattle.refusals.specs.declared.Refusal.TheVariants.{JobOutOfOrder}
 use Rattle.numbers.specs.Reading.{read_at}
 use Rattle.sources.specs.Tables.{entry_of}
 use Rattle.sources.specs.declared.form.Entry.{Entry}
 use Rattle.sources.specs.declared.form.Heading.{Heading}
 use Rattle.sheetfile.specs.Layout.{Row}
-use Rattle.sheetfile.specs.Reading.{entries_from, entry_from, job_from, row_from, worth_from}
+use Rattle.sheetfile.specs.Reading.{entries_from, entry_from, row_from}
 use Rattle.sheetfile.specs.Steps.{and_then, prefixed}
 use Rattle.sheetfile.specs.Tables.{BeginsWith, HoldsRow}
-use Rattle.sheetfile.proofs.Steps.{below, followed, follows, ok_same, tested}
+use Rattle.sheetfile.proofs.Steps.{follows}
 
 pub prefixed_none : {A : Type 0} (r : Result (List A × ℕ) Fault) → prefixed [] r ≡ r
 prefixed_none (Err e) = refl
@@ -76,18 +74,6 @@ row_entries bs h at n next r is rest = follows (read_at bs at) (λ n. entries_fr
 pub row_fault : (bs : List ℕ) (h : Heading) (at : ℕ) (e : Fault) → read_at bs at ≡ Err e → row_from bs h at ≡ Err e
 unfolding row_from
 row_fault bs h at e is = ap (λ q. and_then q (λ n. entries_from bs h n.0 0 n.1)) is
-
--- what an entry that was read keeps to
-pub entry_job : (bs : List ℕ) (h : Heading) (low at : ℕ) (x : ℕ × ℕ) (next : ℕ) → entry_from bs h low at ≡ Ok (x, next) → (low ≤ x.0) × (x.0 < h.jobs)
-entry_job bs h low at x next is =
-    let f = followed (job_from bs h low at) (λ j. and_then (worth_from bs h j.1) (λ w. Ok ((j.0, w.0), w.1))) (x, next) is in
-    let g = followed (worth_from bs h f.0.1) (λ w. Ok ((f.0.0, w.0), w.1)) (x, next) f.2 in
-    let k = followed (read_at bs at) (λ j. cond (leb low j.0 && ltb j.0 h.jobs) (Ok j) (Err (fault_at JobOutOfOrder at))) f.0 f.1 in
-    let t = tested (leb low k.0.0 && ltb k.0.0 h.jobs) (Ok k.0) (fault_at JobOutOfOrder at) f.0 k.2 in
-    let b = below low k.0.0 h.jobs t.0 in
-    let same : f.0.0 ≡ x.0 = ap (λ (y : (ℕ × ℕ) × ℕ). y.0.0) (ok_same ((f.0.0, g.0.0), g.0.1) (x, next) g.2) in
-    let same' : k.0.0 ≡ f.0.0 = ap (λ (y : ℕ × ℕ). y.0) (ok_same k.0 f.0 t.1) in
-    subst (λ n. (low ≤ n) × (n < h.jobs)) (same' ∙ same) b
 
 pub begins_none : (table : List Entry) → BeginsWith table []
 begins_none table = sym (take_all (length table) [] (omega arith))

@@ -7,7 +7,7 @@ use Rattle.sheetfile.specs.Steps.{and_then, prefixed, room_for}
 pub ok_same : {A : Type 0} (x y : A) → ◌≡◌ {A = Result A Fault} (Ok x) (Ok y) → x ≡ y
 ok_same x y e = cc
 
-pub err_not_ok : {A X : Type 0} (e : Fault) (x : A) → ◌≡◌ {A = Result A Fault} (Err e) (Ok x) → X
+pub err_not_ok : {A E X : Type 0} (e : E) (x : A) → ◌≡◌ {A = Result A E} (Err e) (Ok x) → X
 err_not_ok e x is = absurd (let z : ◌≡◌ {A = ℕ} 0 1 = cc in omega arith)
 
 pub followed : {A B : Type 0} (r : Result A Fault) (f : A → Result B Fault) (y : B) → and_then r f ≡ Ok y → (x : A) × (r ≡ Ok x) × (f x ≡ Ok y)

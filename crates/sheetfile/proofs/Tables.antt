@@ -14,7 +14,7 @@ use Rattle.sheetfile.specs.Layout.{Row}
 use Rattle.sheetfile.specs.Readers.{value_of}
 use Rattle.sheetfile.specs.Reading.{row_from, row_in}
 use Rattle.sheetfile.specs.States.{closed_by, headed_by, next_row}
-use Rattle.sheetfile.specs.Steps.{and_then, room_for, updated, without_value}
+use Rattle.sheetfile.specs.Steps.{and_then, room_for, updated}
 use Rattle.numbers.specs.Writing.{over}
 use Rattle.sheetfile.specs.Tables.{BeginsWith, HoldsRow, heading_answer, row_count}
 use Rattle.sheetfile.specs.declared.loader.Bare.{Bare}
@@ -39,12 +39,6 @@ counted (Err d) n is = err_not_ok d n (sym is)
 counted (Ok (row, end)) n is = (row, end, refl, sym (ok_same n (length row) is))
 
 module _ {A : Type 0} (r : Result A Fault) where
-  pub answer_err : (e : Fault) → r ≡ Err e → Err e ≡ without_value r
-  answer_err e is = sym (ap without_value is)
-
-  pub answer_ok : (a : A) → r ≡ Ok a → Ok tt ≡ without_value r
-  answer_ok a is = sym (ap without_value is)
-
   pub updated_err : {X : Type 0} (e : Fault) (x : X) (f : A → X) → r ≡ Err e → x ≡ updated r x f
   updated_err e x f is = sym (ap (λ q. updated q x f) is)
 

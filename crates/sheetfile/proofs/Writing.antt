@@ -1,8 +1,7 @@
 -- Bytes put one after another, and rows read through a source.
-use Rattle.std.proofs.Common.{◌≡◌, ℕ, suc, ◌+◌, ◌*◌, ◌^◌, ◌<◌, ◌≤◌, Bool, true, false, cond, ltb, leb, List, [], ◌∷◌, ◌++◌, map, length, get_or, take, None, Ok, Err, Result, sym, refl, ap, ◌∙◌, subst, ⊎_elim, arith}
-use Rattle.std.proofs.lemmas.List.Elements.{filter_more}
+use Rattle.std.proofs.Common.{◌≡◌, ℕ, suc, ◌+◌, ◌*◌, ◌^◌, ◌<◌, ◌≤◌, true, ltb, leb, List, [], ◌∷◌, ◌++◌, map, length, get_or, take, Ok, Err, sym, refl, ap, ◌∙◌, subst, ⊎_elim, arith}
 use Rattle.std.proofs.ByRecursion.{All-from_get_or, All-take}
-use Rattle.std.proofs.lemmas.List.{append-nil, get_or_past, flat_map_more, length-append, length-take-le, length_push, map_more, take_more}
+use Rattle.std.proofs.lemmas.List.{flat_map_more, length-append, length-take-le, map_more}
 use Rattle.std.proofs.lemmas.Bool.{and_from, cases_lt, cond_both, cond-false, cond-true, le-leb, le-ltb, lt-ltb}
 use Rattle.std.specs.List.{flat_map, AllByRecursion}
 use Rattle.refusals.specs.declared.Refusal.{Refusal}
@@ -10,8 +9,8 @@ use Rattle.refusals.specs.declared.Refusal.TheVariants.{TooShort}
 use Rattle.numbers.proofs.Groups.{encoded_few}
 use Rattle.numbers.specs.Groups.{encoded}
 use Rattle.numbers.specs.Writing.{fits_at, write_at}
-use Rattle.sources.proofs.Reading.{entry_past, row_known, row_len_none, row_length, row_within}
-use Rattle.sources.specs.Meaning.{Meaning, Sound, entry_at, row_len, row_of}
+use Rattle.sources.proofs.Reading.{row_known, row_length, row_within}
+use Rattle.sources.specs.Meaning.{Meaning, Sound, row_of}
 use Rattle.sources.specs.Sheets.{within_limits}
 use Rattle.sources.specs.Tables.{heading_of}
 use Rattle.sources.specs.declared.form.Heading.{Heading}
@@ -21,33 +20,18 @@ use Rattle.sheetfile.specs.Writing.{Writes, nonzero, nonzero_bytes, written}
 use Rattle.sheetfile.proofs.Bounds.{HeadingIn, limits}
 use Rattle.sheetfile.proofs.Overs.{over_none, over-over}
 use Rattle.sheetfile.proofs.Sheets.{entries_push}
-
--- rows and entries, read through options
-module _ (m : Meaning) (i : ℕ) where
-  pub size_none : None ≡ row_len m i → ◌≡◌ {A = ℕ} 0 (length (row_of m i))
-  size_none is = sym (ap length (row_len_none m i is))
-
-  pub at_none : (k : ℕ) → None ≡ entry_at m i k → ◌≡◌ {A = ℕ × ℕ} (0, 0) (get_or (row_of m i) k (0, 0))
-  at_none k is = sym (get_or_past (row_of m i) k (0, 0) (entry_past m i k is))
+use Rattle.sheetfile.proofs.Steps.{err_not_ok}
 
 -- numbers of at most six groups
 pub encoded_short : (n : ℕ) → n < 2 ^ 42 → length (encoded n) ≤ 6
 encoded_short n small = encoded_few 5 n small
 
--- a number that is written where there is room for it
-number_ok : (b : Bool) (next k : ℕ) (e : Refusal) → ◌≡◌ {A = Result ℕ Refusal} (Ok next) (cond b (Ok k) (Err e)) → next ≡ k
-number_ok true next k e is = cc
-number_ok false next k e is = absurd (let z : ◌≡◌ {A = ℕ} 0 1 = cc in omega arith)
-
-number_err : (b : Bool) (d : Refusal) (k : ℕ) (e : Refusal) → ◌≡◌ {A = Result ℕ Refusal} (Err d) (cond b (Ok k) (Err e)) → b ≡ true → ⊥
-number_err true d k e is yes' = let z : ◌≡◌ {A = ℕ} 0 1 = cc in omega arith
-number_err false d k e is yes' = let z : ◌≡◌ {A = ℕ} 0 1 = cc in omega arith
-
 -- six places are room for such a number
 pub never_refused : (n : ℕ) (e : Refusal) → n < 2 ^ 42 → Err e ≡ write_at 6 0 n → ⊥
 never_refused n e small is =
     let short = encoded_short n small in
-    number_err (fits_at 6 0 n) e (0 + length (encoded n)) TooShort is (and_from (leb (length (encoded n)) 6) (leb (0 + length (encoded n)) 6) (le-leb (length (encoded n)) 6 short) (le-leb (0 + length (encoded n)) 6 (omega arith)))
+    let fits : fits_at 6 0 n ≡ true = and_from (leb (length (encoded n)) 6) (leb (0 + length (encoded n)) 6) (le-leb (length (encoded n)) 6 short) (le-leb (0 + length (encoded n)) 6 (omega arith)) in
+    err_not_ok e (0 + length (encoded n)) (is ∙ cond-true (fits_at 6 0 n) (Ok (0 + length (encoded n))) (Err TooShort) fits)
 
 -- nothing, and one after another
 pub writes_none : (out : List ℕ) (at : ℕ) → Writes out out at at []
@@ -81,21 +65,6 @@ part_short : (e : ℕ × ℕ) → Small e → length (nonzero_bytes e) ≤ 12
 part_short e s =
     ⊎_elim (λ some. let l = ap length (part_some e some) in let n = length-append (encoded e.0) (encoded e.1) in let p = encoded_short e.0 s.0 in let q = encoded_short e.1 s.1 in omega arith)
     (λ none. let l = ap length (part_none e none) in omega arith) (cases_lt 0 e.1)
-
--- one more entry of a row
-module _ (row : Row) (k : ℕ) (e : ℕ × ℕ) (inside : k < length row) (is : e ≡ get_or row k (0, 0)) where
-  more : nonzero (take (k + 1) row) ≡ nonzero (take k row) ++ cond (ltb 0 e.1) (e ∷ []) []
-  more = filter_more (λ e. ltb 0 e.1) row k (0, 0) inside ∙ ap (λ (x : ℕ × ℕ). nonzero (take k row) ++ cond (ltb 0 x.1) (x ∷ []) []) (sym is)
-
-  pub count_some : 0 < e.1 → length (nonzero (take (k + 1) row)) ≡ length (nonzero (take k row)) + 1
-  count_some some = ap length (more ∙ ap (λ l. nonzero (take k row) ++ l) (cond-true (ltb 0 e.1) (e ∷ []) [] (lt-ltb 0 e.1 some))) ∙ length_push (nonzero (take k row)) e
-
-  pub count_none : e.1 ≤ 0 → length (nonzero (take (k + 1) row)) ≡ length (nonzero (take k row))
-  count_none none = ap length (more ∙ ap (λ l. nonzero (take k row) ++ l) (cond-false (ltb 0 e.1) (e ∷ []) [] (le-ltb 0 e.1 none)) ∙ append-nil (nonzero (take k row)))
-
-  pub parts_more : flat_map nonzero_bytes (take k row) ++ nonzero_bytes e ≡ flat_map nonzero_bytes (take (k + 1) row)
-  parts_more =
-      ap (λ x. flat_map nonzero_bytes (take k row) ++ nonzero_bytes x) is ∙ flat_map_more nonzero_bytes [] (take k row) (get_or row k (0, 0)) ∙ ap (flat_map nonzero_bytes) (sym (take_more row k (0, 0) inside))
 
 pub parts_all : (row : Row) → flat_map nonzero_bytes row ≡ flat_map entry_bytes (nonzero row)
 parts_all [] = refl
