@@ -9,7 +9,6 @@ use Rattle.sources.specs.Meaning.{Meaning, worth_of}
 use Rattle.sources.specs.Layers.{scaled, times_of}
 use Rattle.sources.proofs.Worths.{worth_times}
 use Rattle.auction.specs.declared.call.Answer.{Answer}
-use Rattle.auction.specs.declared.call.Answer.TheVariants.{Refused}
 use Rattle.auction.specs.declared.standing.Bid.{Bid}
 use Rattle.auction.specs.declared.standing.Counts.{Counts}
 use Rattle.auction.specs.declared.standing.Standing.{Standing}
@@ -61,15 +60,15 @@ start_is m = (_, refl)
 
 -- The start's answer, whatever it depends on, and what follows from it.
 module _ (f : Tally → Tally) (new : Tally) where
-  refused_none : (b : Bool) (r : Result (Unit {0}) Refusal) (e : Refusal) → r ≡ start_by b → told accepted r ≡ Refused e → (e ≡ CountsOutside) × (once f (start_tally_by r new None) ≡ None)
+  refused_none : (b : Bool) (r : Result (Unit {0}) Refusal) (e : Refusal) → r ≡ start_by b → told accepted r ≡ Err e → (e ≡ CountsOutside) × (once f (start_tally_by r new None) ≡ None)
   refused_none true (Ok x) e by is = absurd (let z : ◌≡◌ {A = ℕ} 0 1 = cc in omega arith)
   refused_none true (Err d) e by is = absurd (let z : ◌≡◌ {A = ℕ} 0 1 = cc in omega arith)
   refused_none false (Ok x) e by is = absurd (let z : ◌≡◌ {A = ℕ} 0 1 = cc in omega arith)
   refused_none false (Err d) e by is = (cc, refl)
 
-  accepted_some : (r : Result (Unit {0}) Refusal) → ((e : Refusal) → told accepted r ≡ Refused e → ⊥) → (t : Tally) × (once f (start_tally_by r new None) ≡ Some t)
-  accepted_some (Ok x) not = (f new, refl)
-  accepted_some (Err e) not = absurd (not e refl)
+  accepted_some : (r : Result (Unit {0}) Refusal) (a : Answer) → told accepted r ≡ Ok a → (t : Tally) × (once f (start_tally_by r new None) ≡ Some t)
+  accepted_some (Ok x) a is = (f new, refl)
+  accepted_some (Err e) a is = absurd (let z : ◌≡◌ {A = ℕ} 0 1 = cc in omega arith)
 
   some_step : (r : Result (Unit {0}) Refusal) (t : Tally) → (f new).step ≡ 1 → once f (start_tally_by r new None) ≡ Some t → t.step ≡ 1
   some_step (Ok x) t h e = let same : f new ≡ t = cc in sym (ap (λ (u : Tally). u.step) same) ∙ h
@@ -95,7 +94,7 @@ times_some g w some =
 
 -- ---- what a replay of the two calls shows
 
-module _ (m : Meaning) (n : ℕ) (is : n ≡ m.carriers) (before after : List Answer) (b : Books) (r : Replayed (times_of (n + 1) m) two_calls before after b) where
+module _ (m : Meaning) (n : ℕ) (is : n ≡ m.carriers) (before after : List (Result Answer Refusal)) (b : Books) (r : Replayed (times_of (n + 1) m) two_calls before after b) where
   pub tally_is : tally_of (times_of (n + 1) m) b ≡ auctioned m
   unfolding auctioned
   tally_is = r.tallied ∙ ap (λ k. tally_after (times_of (k + 1) m) two_calls) is
@@ -103,9 +102,9 @@ module _ (m : Meaning) (n : ℕ) (is : n ≡ m.carriers) (before after : List An
   laws : (t : Tally) → auctioned m ≡ Some t → AuctionLaws (times_of (n + 1) m) t
   laws t e = r.lawful t (tally_is ∙ e)
 
-  first_is : (d : Answer) → get_or after 0 d ≡ told accepted (start_answer 1 8 (timed m))
+  first_is : (d : Result Answer Refusal) → get_or after 0 d ≡ told accepted (start_answer 1 8 (timed m))
   unfolding answer_to
-  first_is d = ap (λ (answers : List Answer). get_or answers 0 d) r.answered ∙ ap (λ k. told accepted (start_answer 1 8 (times_of (k + 1) m))) is
+  first_is d = ap (λ (answers : List (Result Answer Refusal)). get_or answers 0 d) r.answered ∙ ap (λ k. told accepted (start_answer 1 8 (times_of (k + 1) m))) is
 
   pub standings_long : (t : Tally) → auctioned m ≡ Some t → length t.standings ≡ n
   standings_long t e = sym (length-map t.standings job_served) ∙ (laws t e).own.sized ∙ sym is
@@ -125,7 +124,7 @@ module _ (m : Meaning) (n : ℕ) (is : n ≡ m.carriers) (before after : List An
             (λ i j _. ⊎_elim (λ inside. All-get_or Done t.standings i Out inside all) (λ past. subst Done (sym (get_or_past t.standings i Out past)) tt) (cases_lt i (length t.standings)));
       }
 
-  pub ends_refused : (e : Refusal) (d : Answer) (ss : List Standing) → get_or after 0 d ≡ Refused e → Ends (auctioned m) (Err e) ss
+  pub ends_refused : (e : Refusal) (d : Result Answer Refusal) (ss : List Standing) → get_or after 0 d ≡ Err e → Ends (auctioned m) (Err e) ss
   ends_refused e d ss first =
       let w = refused_none (running m) (begun m) (start_is (timed m)).0 (start_answer 1 8 (timed m)) e (start_is (timed m)).1 (sym (first_is d) ∙ first) in
       subst (λ o. Ends o (Err e) ss) (sym (auction_is m ∙ w.1)) (ap Err w.0)
@@ -135,10 +134,10 @@ module _ (m : Meaning) (n : ℕ) (is : n ≡ m.carriers) (before after : List An
   standing_told t e i inside =
       ap (standing_answer i (times_of (n + 1) m)) (tally_is ∙ e) ∙ cond-true (ltb i m.carriers) (Ok (standing_at t i)) (Err NoSuchCarrier) (lt-ltb i m.carriers (omega (arith, is)))
 
-  pub ends_well : (d : Answer) (c : Result Counts Refusal) (ss : List Standing) → ((e : Refusal) → get_or after 0 d ≡ Refused e → ⊥) → c ≡ counts_answer (times_of (n + 1) m) (tally_of (times_of (n + 1) m) b) →
+  pub ends_well : (d : Result Answer Refusal) (a : Answer) (c : Result Counts Refusal) (ss : List Standing) → get_or after 0 d ≡ Ok a → c ≡ counts_answer (times_of (n + 1) m) (tally_of (times_of (n + 1) m) b) →
       length ss ≡ n → ((t : Tally) → auctioned m ≡ Some t → (k : ℕ) → k < n → get_or ss k Out ≡ standing_at t k) → Ends (auctioned m) c ss
-  ends_well d c ss not counted long each =
-      let w = accepted_some (running m) (begun m) (start_answer 1 8 (timed m)) (λ e first. not e (first_is d ∙ first)) in
+  ends_well d a c ss first counted long each =
+      let w = accepted_some (running m) (begun m) (start_answer 1 8 (timed m)) a (sym (first_is d) ∙ first) in
       let t = w.0 in
       let some : auctioned m ≡ Some w.0 = auction_is m ∙ w.1 in
       subst (λ o. Ends o c ss) (sym some) (

@@ -1,6 +1,6 @@
 -- Lines that are put one behind the other, and what carriers hold, added up.
-use Rattle.std.proofs.Common.{◌≡◌, ℕ, suc, ◌+◌, ◌<◌, ◌≤◌, List, [], ◌∷◌, ◌++◌, map, length, get_or, take, Some, None, Option, sym, ap, ◌∙◌, arith}
-use Rattle.std.proofs.lemmas.List.{append_assoc, append-nil, length-map, length-take-le, map_push, take_more}
+use Rattle.std.proofs.Common.{◌≡◌, ℕ, zero, suc, ◌^◌, ◌+◌, ◌<◌, ◌≤◌, List, [], ◌∷◌, ◌++◌, map, length, get_or, take, Some, None, Option, sym, ap, ◌∙◌, refl, add-one, arith}
+use Rattle.std.proofs.lemmas.List.{append_assoc, append-nil, length-take-le, take_more}
 use Rattle.sources.specs.Meaning.{Meaning, Sound, row_of}
 use Rattle.sources.proofs.Reading.{row_within}
 use Rattle.auction.specs.declared.standing.Standing.{Standing}
@@ -24,20 +24,27 @@ lines_more m ss i d inside =
     ap (λ k. carrier_lines m 0 (take i ss) ++ carrier_line m k (get_or ss i d)) (sym n)
     ∙ sym (lines_push m 0 (take i ss) (get_or ss i d)) ∙ ap (carrier_lines m 0) (sym (take_more ss i d inside))
 
-along_push : (rows : List (List (ℕ × ℕ))) (row : List (ℕ × ℕ)) (p : List (Option ℕ)) (o : Option ℕ) → length rows ≡ length p → worth_along (rows ++ row ∷ []) (p ++ o ∷ []) ≡ worth_along rows p + given_worth row o
-along_push [] row [] o e = omega arith
-along_push [] row (q ∷ p) o e = absurd (omega arith)
-along_push (r ∷ rows) row [] o e = absurd (omega arith)
-along_push (r ∷ rows) row (q ∷ p) o e = let i = along_push rows row p o (omega arith) in omega (arith, i)
+pub along_none : (rows : List (List (ℕ × ℕ))) → worth_along rows [] ≡ 0
+along_none [] = refl
+along_none (r ∷ rows) = refl
 
-pub along_more : (rows : List (List (ℕ × ℕ))) (ss : List Standing) (i : ℕ) (d : Standing) → i < length rows → i < length ss →
-    worth_along (take (i + 1) rows) (map job_served (take (i + 1) ss)) ≡ worth_along (take i rows) (map job_served (take i ss)) + given_worth (get_or rows i []) (job_served (get_or ss i d))
-along_more rows ss i d a b =
-    let l : length (take i rows) ≡ length (map job_served (take i ss)) = omega (arith, length-take-le i rows (omega arith), length-take-le i ss (omega arith), length-map (take i ss) job_served) in
-    ap (λ rs. worth_along rs (map job_served (take (i + 1) ss))) (take_more rows i [] a)
-    ∙ ap (λ p. worth_along (take i rows ++ get_or rows i [] ∷ []) p) (ap (map job_served) (take_more ss i d b) ∙ map_push job_served (take i ss) (get_or ss i d))
-    ∙ along_push (take i rows) (get_or rows i []) (map job_served (take i ss)) (job_served (get_or ss i d)) l
+given_none : (o : Option ℕ) → given_worth [] o ≡ 0
+given_none None = refl
+given_none (Some j) = refl
 
-pub given_capped : (m : Meaning) → Sound m → (i : ℕ) (o : Option ℕ) → given_worth (row_of m i) o ≤ m.ceiling
+along_next : (rows : List (List (ℕ × ℕ))) (ss : List Standing) (i : ℕ) (d : Standing) → i < length ss →
+    worth_along rows (map job_served (take (suc i) ss)) ≡ worth_along rows (map job_served (take i ss)) + given_worth (get_or rows i []) (job_served (get_or ss i d))
+along_next rows [] i d inside = absurd (omega (arith, inside))
+along_next [] (s ∷ ss) i d inside = omega (arith, given_none (job_served (get_or (s ∷ ss) i d)))
+along_next (r ∷ rows) (s ∷ ss) zero d inside = omega (arith, along_none rows)
+along_next (r ∷ rows) (s ∷ ss) (suc i) d inside = let more = along_next rows ss i d (omega (arith, inside)) in omega (arith, more)
+
+-- one carrier more is counted
+pub along_more : (rows : List (List (ℕ × ℕ))) (ss : List Standing) (i : ℕ) (d : Standing) → i < length ss →
+    worth_along rows (map job_served (take (i + 1) ss)) ≡ worth_along rows (map job_served (take i ss)) + given_worth (get_or rows i []) (job_served (get_or ss i d))
+along_more rows ss i d inside = ap (λ n. worth_along rows (map job_served (take n ss))) (add-one i) ∙ along_next rows ss i d inside
+
+-- no source has a ceiling above 2 ^ 60
+pub given_capped : (m : Meaning) → Sound m → (i : ℕ) (o : Option ℕ) → given_worth (row_of m i) o ≤ 2 ^ 60
 given_capped m s i None = omega arith
-given_capped m s i (Some j) = worth_capped m.ceiling (row_of m i) (row_within m s i) j
+given_capped m s i (Some j) = omega (arith, worth_capped m.ceiling (row_of m i) (row_within m s i) j, s.small)

@@ -30,14 +30,12 @@ pub(crate) fn hold_auction<S: Source>(
             budget: 1_000_000,
         },
     ];
-    let mut answers = [Answer::Accepted; 2];
+    let mut answers = [Ok(Answer::Accepted); 2];
     let (hall, _) = replay(times, &calls, &mut answers);
-    if let Answer::Refused(refusal) = answers[0] {
-        return Err(refusal);
-    }
-    for i in 0..standings.len() {
-        if let Ok(standing) = hall.standing(i) {
-            standings[i] = standing;
+    answers[0]?;
+    for (carrier, standing) in standings.iter_mut().enumerate() {
+        if let Ok(told) = hall.standing(carrier) {
+            *standing = told;
         }
     }
     hall.counts()

@@ -1,11 +1,15 @@
 // Pairs the carriers and jobs of a sheet file.
 #![tactic(auto)]
 
-ghost use Rattle.std.specs.Prelude.{◌≡◌, ◌^◌, ◌≤◌, length};
+ghost use Rattle.std.specs.Prelude.{◌≡◌, ◌≤◌, length};
 ghost use Rattle.pairing.specs.Listing.{refused_line};
 ghost use Rattle.pairing.specs.Pairs.{AtMost, FilePairsWell, Holds, PairsWell, auctioned, fitted, listed, listed_within, listing_after, printed, put_into, refusal_in, sized};
 
+use crate::auctioning::hold_auction;
+use crate::listing::Ended;
+use crate::putting::put_number;
 use auction::standing::Standing;
+use outputs::Output;
 use refusals::Refusal;
 use sheetfile::whole::{MOST_ENTRIES, MOST_STARTS, load_within};
 use sources::form::Entry;
@@ -31,29 +35,31 @@ pub fn list_pairs(sheet: &[u8], out: &mut [u8]) -> Result<usize, Refusal>
     let mut starts = [0usize; MOST_STARTS];
     let mut entries = [Entry { job: 0, worth: 0 }; MOST_ENTRIES];
     let mut source = Sheet::new();
-    match load_within(sheet, &mut starts, &mut entries, &mut source) {
-        Ok(()) => list_source(&source, out),
-        Err(fault) => Err(fault.refusal),
-    }
+    load_within(sheet, &mut starts, &mut entries, &mut source).map_err(|fault| fault.refusal)?;
+    list_source(&source, out)
 }
 
 // The same of a sheet that is loaded.
 fn list_source<S: Source>(source: &S, out: &mut [u8]) -> Result<usize, Refusal>
-    requires few { (S.Source.meaning source.now).carriers ≤ 128 }
-    requires low { (S.Source.meaning source.now).ceiling ≤ 2 ^ 36 }
+    requires { (S.Source.meaning source.now).carriers ≤ 128 }
     ensures answer { result ≡ sized (fitted (length out.old) (listing_after (S.Source.meaning source.now) (auctioned (S.Source.meaning source.now)))) }
     ensures after { out.new ≡ put_into out.old (fitted (length out.old) (listing_after (S.Source.meaning source.now) (auctioned (S.Source.meaning source.now)))) }
     ensures paired { PairsWell (S.Source.meaning source.now) }
     ensures short { AtMost 8320 (listing_after (S.Source.meaning source.now) (auctioned (S.Source.meaning source.now))) }
 {
     let mut places = [Standing::Waiting; 128];
-    let standings = &mut places[0..source.carriers()];
-    let counts = auctioning::hold_auction(source, standings)?;
-    let len = listing::put_listing(source, standings, counts, &mut []);
+    let standings = &mut places[..source.carriers()];
+    let counts = hold_auction(source, standings)?;
+    let ended = Ended {
+        source,
+        standings,
+        counts,
+    };
+    let len = ended.put_listing(&mut []);
     if out.len() < len {
         return Err(Refusal::TooShort);
     }
-    Ok(listing::put_listing(source, standings, counts, out))
+    Ok(ended.put_listing(out))
 }
 
 // What `pair` prints of a sheet file: how many bytes, and the refusal, if it is refused.
@@ -83,7 +89,9 @@ fn put_refused(refusal: Refusal, out: &mut [u8]) -> usize
     requires { 64 ≤ length out.old }
     ensures { Holds out.new result (refused_line refusal) }
 {
-    let number_at = putting::put_bytes(out, 0, b"refused ");
-    let number_end = putting::put_decimal(out, number_at, refusal.number() as u64);
-    putting::put_bytes(out, number_end, b"\n")
+    let mut output = Output::new(out);
+    output.put(b"refused ");
+    put_number(&mut output, refusal.number());
+    output.put(b"\n");
+    output.len()
 }

@@ -1,30 +1,15 @@
-// Bytes put one after another. Where there is no room for them, only their length is told.
-ghost use Rattle.std.specs.Prelude.{◌+◌, ◌^◌, ◌<◌, ◌≤◌, length, decimal};
-ghost use Rattle.sheetfile.specs.Writing.{Writes};
+// Numbers put to lent bytes.
+ghost use Rattle.std.specs.Prelude.{◌≤◌, length};
+ghost use Rattle.outputs.specs.Puts.{Puts};
 
-// Puts bytes from a place on, if there is room for them, and gives the place behind them.
-pub(crate) fn put_bytes(out: &mut [u8], at: usize, bytes: &[u8]) -> usize
-    requires { at + length bytes.now < 2 ^ 64 }
-    ensures { Writes out.old out.new at result bytes.now }
-{
-    let next = at + bytes.len();
-    if next <= out.len() {
-        out[at..next].copy_from_slice(bytes);
-    }
-    next
-}
+use itoa::{Buffer, Integer};
+use outputs::Output;
 
-// The same of a number in decimal: at most 20 digits.
-pub(crate) fn put_decimal(out: &mut [u8], at: usize, n: u64) -> usize
-    requires { at < 2 ^ 32 }
-    ensures written { Writes out.old out.new at result (decimal n) }
-    ensures short { result ≤ at + 20 }
+// Puts a number in decimal.
+pub(crate) fn put_number<I: Integer>(output: &mut Output<'_>, n: I)
+    ensures puts { Puts output.old output.new (I.text n) }
+    ensures short { length (I.text n) ≤ I.MAX_STR_LEN }
 {
-    let last = [b'0' + (n % 10) as u8];
-    if n < 10 {
-        put_bytes(out, at, &last)
-    } else {
-        let next = put_decimal(out, at, n / 10);
-        put_bytes(out, next, &last)
-    }
+    let mut buffer = Buffer::new();
+    output.put(buffer.format(n).as_bytes());
 }

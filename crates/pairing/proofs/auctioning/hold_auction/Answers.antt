@@ -1,37 +1,40 @@
-use Rattle.std.proofs.Common.{◌≡◌, length, get_or, is_ok, sym, ap, ◌∙◌, arith, Bor}
+use Rattle.std.proofs.Common.{◌≡◌, rules, length, get_or, is_ok, Err, sym, ap, ◌∙◌, subst, arith, Bor}
 use Rattle.sources.specs.declared.times.Times.{Times}
 use Rattle.sources.specs.Layers.{times_of}
 use Rattle.auction.specs.Calls.{counts_answer, standing_answer}
 use Rattle.auction.specs.declared.standing.Standing.TheVariants.{Out}
 use Rattle.auction.specs.Tally.{standing_at}
 use Rattle.hall.specs.InBooks.{tally_of}
+use Rattle.pairing.specs.Pairs.{Ends, auctioned}
 use Rattle.pairing.proofs.Auctions.{ends_refused, ends_well, noted_more, ok_same, pairs_well, standing_told}
 use Rattle.pairing.proofs.auctioning.hold_auction.Goals as goal
-use Rattle.pairing.proofs.auctioning.hold_auction.Goals.{in-Ok, in_default-standing}
+use Rattle.pairing.proofs.auctioning.hold_auction.Goals.{in-Ok, in_default}
 
-pub returns-in-Refused : goal.returns-in-Refused
-returns-in-Refused g c =
-    let m = g.S.Source.meaning c.args.source.now in
-    let r = c.replay.ensures.replayed (ap is_ok c.replay.ensures.fits) in
-    record {
-      ends = ends_refused m (length c.args.standings.now) c.requires.each _ c.replay.new.answers c.replay.result.0.books r c.in-Refused.refusal _ c.args.standings.now c.in-Refused.is;
-      paired = pairs_well m (length c.args.standings.now) c.requires.each _ c.replay.new.answers c.replay.result.0.books r;
-    }
-
-pub loop-i-preserved : goal.loop-i-preserved
-loop-i-preserved g c t some =
+pub returns-in_err-answers : goal.returns-in_err-answers
+returns-in_err-answers g c =
     let m = g.S.Source.meaning c.args.source.now in
     let n = length c.args.standings.now in
-    let i = c.loop-i.i in
+    let r = c.replay.ensures.replayed (ap is_ok c.replay.ensures.fits) in
+    let back : c.from_residual.result ≡ Err c.in_err-answers.field-0.0 = search rules in
+    record {
+      ends = subst (λ o. Ends (auctioned m) o c.args.standings.now) (sym back) (ends_refused m n c.requires.each _ c.replay.new.answers c.replay.result.0.books r c.in_err-answers.field-0.0 _ c.args.standings.now c.in_err-answers.was);
+      paired = pairs_well m n c.requires.each _ c.replay.new.answers c.replay.result.0.books r;
+    }
+
+pub loop-carrier-preserved : goal.loop-carrier-preserved
+loop-carrier-preserved g c t some =
+    let m = g.S.Source.meaning c.args.source.now in
+    let n = length c.args.standings.now in
+    let i = c.loop-carrier.carrier in
     let b = c.replay.result.0.books in
     let r = c.replay.ensures.replayed (ap is_ok c.replay.ensures.fits) in
     let told = c.standing.ensures ∙ ap (λ (s : Times (Bor g.row.S.Denot)). standing_answer i (times_of s.factor (g.S.Source.meaning s.below.now)) (tally_of (times_of s.factor (g.S.Source.meaning s.below.now)) b)) c.replay.ensures.kept
-    ∙ standing_told m n c.requires.each _ c.replay.new.answers b r t some i c.loop-i-test.true in
+    ∙ standing_told m n c.requires.each _ c.replay.new.answers b r t some i c.loop-carrier-test.true in
     elim c.match-standing.branch [
       | in-Ok w ↦
-          let same : w.in-Ok.standing ≡ standing_at t c.loop-i.i = ok_same _ _ (sym w.in-Ok.is ∙ told) in
-          λ k h. ap (λ ss. get_or ss k Out) w.standings-is ∙ noted_more c.loop-i.standings i w.in-Ok.standing (standing_at t) (omega (arith, c.loop-i-test.true, c.loop-i.auto.standings)) same (c.loop-i.invariant t some) k h
-      | in_default-standing w ↦ absurd (w.in_default-standing.not-Ok _ told)
+          let same : w.in-Ok.told ≡ standing_at t c.loop-carrier.carrier = ok_same _ _ (sym w.in-Ok.is ∙ told) in
+          λ k h. ap (λ ss. get_or ss k Out) w.standings-is ∙ noted_more c.loop-carrier.standings i w.in-Ok.told (standing_at t) (omega (arith, c.loop-carrier-test.true, c.loop-carrier.auto.standings)) same (c.loop-carrier.invariant t some) k h
+      | in_default w ↦ absurd (w.in_default.not-Ok _ told)
     ]
 
 pub returns : goal.returns
@@ -40,9 +43,10 @@ returns g c =
     let n = length c.args.standings.now in
     let b = c.replay.result.0.books in
     let r = c.replay.ensures.replayed (ap is_ok c.replay.ensures.fits) in
+    let first = c.in_ok-answers.was in
     record {
-      ends = ends_well m n c.requires.each _ c.replay.new.answers b r _ c.counts.result c.loop-i.standings c.in_default.not-Refused
+      ends = ends_well m n c.requires.each _ c.replay.new.answers b r _ c.in_ok-answers.field-0 c.counts.result c.loop-carrier.standings first
           (c.counts.ensures ∙ ap (λ (s : Times (Bor g.row.S.Denot)). counts_answer (times_of s.factor (g.S.Source.meaning s.below.now)) (tally_of (times_of s.factor (g.S.Source.meaning s.below.now)) b)) c.replay.ensures.kept)
-          c.loop-i.auto.standings (λ t some k inside. c.loop-i.invariant t some k (omega (arith, c.loop-i-test.false)));
+          c.loop-carrier.auto.standings (λ t some k inside. c.loop-carrier.invariant t some k (omega (arith, c.loop-carrier-test.false)));
       paired = pairs_well m n c.requires.each _ c.replay.new.answers b r;
     }
