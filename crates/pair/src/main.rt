@@ -1,6 +1,6 @@
 #![tactic(auto)]
 
-use anyhow::anyhow;
+use anyhow::ensure;
 use pairing::{MOST_TEXT, Printed, print_pairs};
 use sheetfile::whole::MOST_BYTES;
 use std::io::{Read, Write};
@@ -15,8 +15,6 @@ fn main(rt: HostRuntime) -> anyhow::Result<()> {
     let mut text = [0u8; MOST_TEXT];
     let Printed { len, refusal } = print_pairs(&sheet, &mut text);
     rt.stdout().write_all(&text[0..len])?;
-    match refusal {
-        Some(_) => Err(anyhow!("refused")),
-        None => Ok(()),
-    }
+    ensure!(refusal.is_none(), "refused");
+    Ok(())
 }

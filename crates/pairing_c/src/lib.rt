@@ -13,6 +13,7 @@ pub extern "C" fn torwhisk_pair(sheet: &[u8], out: &mut [u8]) -> i64
     ensures after { out.new ≡ put_into out.old (listed_within sheet.now (length out.old)) }
     ensures paired { FilePairsWell sheet.now }
 {
+    // By hand: C knows no Result, so the length and the refusal's number share one integer.
     match list_pairs(sheet, out) {
         Ok(len) => len as i64,
         Err(refusal) => -i64::from(refusal.number()),

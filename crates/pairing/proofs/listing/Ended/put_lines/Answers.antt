@@ -1,5 +1,5 @@
-use Rattle.std.proofs.Common.{get_or, take, sym, ap, arith}
-use Rattle.std.proofs.lemmas.List.{length-append, take_all}
+use Rattle.std.proofs.Common.{get_or, take, sym, arith}
+use Rattle.std.proofs.lemmas.List.{length-append}
 use Rattle.outputs.proofs.Puts.{puts_same, puts_then}
 use Rattle.auction.specs.declared.standing.Standing.TheVariants.{Waiting}
 use Rattle.pairing.specs.Listing.{carrier_line, carrier_lines}
@@ -17,14 +17,4 @@ loop-carrier-preserved g c =
     record {
       puts = puts_same more (puts_then c.loop-carrier.invariant.puts c.put_line.ensures.puts);
       short = rw (sym more) (omega (arith, length-append before line, c.loop-carrier.invariant.short, c.put_line.ensures.short));
-    }
-
-pub returns : goal.returns
-returns g c =
-    let m = g.S.Source.meaning c.args.self.now.source.now in
-    let ss = c.args.self.now.standings.now in
-    let all = ap (carrier_lines m 0) (take_all c.loop-carrier.carrier ss c.loop-carrier-test.false) in
-    record {
-      puts = puts_same all c.loop-carrier.invariant.puts;
-      short = rw (sym all) (omega (arith, c.loop-carrier.invariant.short));
     }

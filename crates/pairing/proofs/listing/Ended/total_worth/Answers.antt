@@ -1,14 +1,8 @@
-use Rattle.std.proofs.Common.{map, get_or, sym, ap, ◌∙◌, arith}
-use Rattle.std.proofs.lemmas.List.{take_all}
+use Rattle.std.proofs.Common.{get_or, sym, arith}
 use Rattle.auction.specs.declared.standing.Standing.TheVariants.{Waiting}
-use Rattle.auction.specs.Laws.{job_served, worth}
+use Rattle.auction.specs.Laws.{job_served}
 use Rattle.pairing.proofs.Lines.{along_more, along_none, given_capped}
 use Rattle.pairing.proofs.listing.Ended.total_worth.Goals as goal
-
-pub overflow_add-total : goal.overflow_add-total
-overflow_add-total g c =
-    let cap = given_capped (g.S.Source.meaning c.args.self.now.source.now) (g.S.Source.sound c.args.self.now.source.now) c.loop-carrier.carrier (job_served (get_or c.args.self.now.standings.now c.loop-carrier.carrier Waiting)) in
-    omega (arith, c.worth_served.ensures, cap, c.loop-carrier.invariant.small)
 
 pub loop-carrier-init : goal.loop-carrier-init
 loop-carrier-init g c = record { total = sym (along_none (g.S.Source.meaning c.args.self.now.source.now).rows); small = omega arith }
@@ -24,8 +18,3 @@ loop-carrier-preserved g c =
       total = omega (arith, more, c.worth_served.ensures, c.loop-carrier.invariant.total);
       small = omega (arith, c.worth_served.ensures, cap, c.loop-carrier.invariant.small);
     }
-
-pub returns : goal.returns
-returns g c =
-    let m = g.S.Source.meaning c.args.self.now.source.now in
-    c.loop-carrier.invariant.total ∙ ap (λ ss. worth m (map job_served ss)) (take_all c.loop-carrier.carrier c.args.self.now.standings.now c.loop-carrier-test.false)
