@@ -1,5 +1,5 @@
 -- What the private functions of the books answer and leave.
-use Rattle.std.specs.Prelude.{◌≡◌, ℕ, cond, Ok, Err, Result, nat_lt}
+use Rattle.std.specs.Prelude.{◌≡◌, ℕ, cond, Ok, Err, Result, nat_lt, slice_index_or}
 use Rattle.sources.specs.Meaning.{Meaning}
 use Rattle.refusals.specs.declared.Refusal.{Refusal}
 use Rattle.refusals.specs.declared.Refusal.TheVariants.{NeverStarted, NoSuchCarrier, NoSuchJob}
@@ -10,6 +10,8 @@ use Rattle.auction.specs.declared.standing.Standing.{Standing}
 use Rattle.auction.specs.declared.standing.Standing.TheVariants.{Bidding}
 use Rattle.auction.specs.Rules.{counted}
 use Rattle.hall.specs.declared.books.Books.{Books}
+use Rattle.hall.specs.declared.books.Lot.{Lot}
+use Rattle.hall.specs.Kept.{unsold}
 use Rattle.hall.specs.InBooks.{is_open}
 
 -- Whether the hall was started is checked first, the number of the carrier or job then.
@@ -19,8 +21,8 @@ admitted_below n e m i b = cond (is_open m b) (cond (nat_lt i n) (Ok tt) (Err e)
 abbrev pub admitted : Meaning → ℕ → Books → Result (Unit {0}) Refusal
 admitted m i b = admitted_below b.noted.carriers NoSuchCarrier m i b
 
-abbrev pub admitted_job : Meaning → ℕ → Books → Result (Unit {0}) Refusal
-admitted_job m j b = admitted_below b.noted.jobs NoSuchJob m j b
+abbrev pub lot_answer : ℕ → Meaning → Books → Result Lot Refusal
+lot_answer j m b = cond (is_open m b) (cond (nat_lt j b.noted.jobs) (Ok (slice_index_or b.lots j unsold)) (Err NoSuchJob)) (Err NeverStarted)
 
 -- A bid that is begun or carried on is the carrier's standing after.
 abbrev pub standing_after : Standing → Result Bid Refusal → Standing

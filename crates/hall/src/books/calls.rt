@@ -9,7 +9,7 @@ ghost use Rattle.auction.specs.Tally.{standing_at};
 ghost use Rattle.hall.specs.Kept.{prices_of, holders_of};
 ghost use Rattle.hall.specs.InBooks.{tally_in, tally_of, is_open};
 ghost use Rattle.hall.specs.Ruled.{Ruled};
-ghost use Rattle.hall.specs.Steps.{Noted, admitted, counts_after, standing_after};
+ghost use Rattle.hall.specs.Steps.{Noted, admitted_below, admitted, counts_after, standing_after};
 
 use super::{Books, Lot};
 use crate::weighing::{best_worth, weighed};
@@ -189,17 +189,29 @@ impl Books {
         Ok(())
     }
 
-    // Whether the hall was started, then whether there is such a carrier.
-    pub(super) fn admit<S: Source>(&self, source: &S, carrier: usize) -> Result<(), Refusal>
-        ensures { result ≡ admitted (S.meaning source.now) carrier self.now }
+    // Whether the hall was started, then whether the number of a carrier or job is below how many there are.
+    pub(super) fn admit_below<S: Source>(
+        &self,
+        source: &S,
+        number: usize,
+        count: usize,
+        refusal: Refusal,
+    ) -> Result<(), Refusal>
+        ensures { result ≡ admitted_below count refusal (S.meaning source.now) number self.now }
     {
         if !self.is_open(source) {
             Err(Refusal::NeverStarted)
-        } else if carrier >= self.noted.carriers {
-            Err(Refusal::NoSuchCarrier)
+        } else if number >= count {
+            Err(refusal)
         } else {
             Ok(())
         }
+    }
+
+    pub(super) fn admit<S: Source>(&self, source: &S, carrier: usize) -> Result<(), Refusal>
+        ensures { result ≡ admitted (S.meaning source.now) carrier self.now }
+    {
+        self.admit_below(source, carrier, self.noted.carriers, Refusal::NoSuchCarrier)
     }
 
     // Calls on a carrier, whose standing is lent to be changed. A bid that settles is still open after.

@@ -3,9 +3,9 @@ ghost use Rattle.std.specs.Prelude.{◌≡◌, ◌^◌, ◌<◌, sum_by};
 ghost use Rattle.auction.specs.Tally.{worth_served};
 ghost use Rattle.auction.specs.Calls.{price_answer, holder_answer, standing_answer, worth_answer, counts_answer};
 ghost use Rattle.hall.specs.InBooks.{tally_of};
-ghost use Rattle.hall.specs.Steps.{admitted_job};
+ghost use Rattle.hall.specs.Steps.{lot_answer};
 
-use super::Books;
+use super::{Books, Lot};
 use auction::standing::{Counts, Standing};
 use refusals::Refusal;
 use sources::source::Source;
@@ -29,31 +29,24 @@ fn total_worth(standings: &[Standing]) -> u64
 }
 
 impl Books {
-    // Whether the hall was started, then whether there is such a job.
-    fn admit_job<S: Source>(&self, source: &S, job: usize) -> Result<(), Refusal>
-        ensures { result ≡ admitted_job (S.meaning source.now) job self.now }
+    // What is kept of a job.
+    fn lot<S: Source>(&self, source: &S, job: usize) -> Result<Lot, Refusal>
+        ensures { result ≡ lot_answer job (S.meaning source.now) self.now }
     {
-        if !self.is_open(source) {
-            Err(Refusal::NeverStarted)
-        } else if job >= self.noted.jobs {
-            Err(Refusal::NoSuchJob)
-        } else {
-            Ok(())
-        }
+        self.admit_below(source, job, self.noted.jobs, Refusal::NoSuchJob)?;
+        Ok(self.lots[job])
     }
 
     pub(crate) fn price<S: Source>(&self, source: &S, job: usize) -> Result<u64, Refusal>
         ensures { result ≡ price_answer job (S.meaning source.now) (tally_of (S.meaning source.now) self.now) }
     {
-        self.admit_job(source, job)?;
-        Ok(self.lots[job].price)
+        self.lot(source, job).map(|lot| lot.price)
     }
 
     pub(crate) fn holder<S: Source>(&self, source: &S, job: usize) -> Result<Option<usize>, Refusal>
         ensures { result ≡ holder_answer job (S.meaning source.now) (tally_of (S.meaning source.now) self.now) }
     {
-        self.admit_job(source, job)?;
-        Ok(self.lots[job].holder)
+        self.lot(source, job).map(|lot| lot.holder)
     }
 
     pub(crate) fn standing<S: Source>(
