@@ -1,23 +1,26 @@
 -- What is printed of calls is read back.
-use Rattle.std.proofs.Common.{◌≡◌, ℕ, ◌+◌, ◌-◌, ◌^◌, ◌<◌, ◌≤◌, Bool, true, cond, not, ◌&&◌, eqb, leb, List, [], ◌∷◌, ◌++◌, length, Some, None, Ok, codes, decimal, sym, refl, ap, ◌∙◌, arith, rules}
+use Rattle.std.proofs.Common.{◌≡◌, ℕ, ◌+◌, ◌-◌, ◌^◌, ◌<◌, ◌≤◌, Bool, true, false, not, ◌&&◌, eqb, leb, List, [], ◌∷◌, ◌++◌, length, Some, None, Ok, codes, decimal, sym, refl, ap, ◌∙◌, arith, rules}
 use Rattle.std.proofs.lemmas.Fmt.{decimal_nonempty, digits_decimal, digits_value-decimal}
 use Rattle.std.proofs.lemmas.List.{append_assoc, append-nil}
-use Rattle.std.proofs.lemmas.Str.Parse.{IsNumeralModel, numerals_by_fold, tells_all_ascii_digits}
+use Rattle.std.proofs.lemmas.List.Splits.{slice_split_at, slice_split_none}
+use Rattle.std.specs.Option.{option_and_then}
 use Rattle.std.proofs.lemmas.Bool.{and_from, and_parts, cond-false, le-ltb, leb-true, ne_eqb, not_from_false, not-true}
 use Rattle.std.specs.Char.{is_ascii_digit}
-use Rattle.std.specs.List.{AllByRecursion}
+use Rattle.std.specs.List.{All, AllByRecursion}
+use Rattle.std.proofs.lemmas.List.Elements.{All-cons, All-nil}
 use Rattle.std.specs.Str.{all_ascii_digits}
 use Rattle.auction.specs.declared.call.Call.{Call}
 use Rattle.auction.specs.declared.call.Call.TheVariants.{Start, Summon, Look, Settle, Run, PriceOf, HolderOf, StandingOf, TotalWorth, AllCounts}
 use Rattle.replaying.specs.declared.line.Said.TheVariants.{Make, Skip}
-use Rattle.replaying.specs.Lines.{said_by, said_by_words, said_of_one, said_of_two, with_number}
-use Rattle.replaying.specs.Logs.{asked_from, asked_in}
-use Rattle.replaying.specs.Numerals.{number_in, value_on}
-use Rattle.replaying.specs.Parts.{lines_of, on_first, parts_of, words_of}
+use Rattle.replaying.specs.Lines.{said_by, said_by_words, said_of_one, said_of_two}
+use Rattle.replaying.specs.Logs.{asked_from, asked_in, no_layers, noted}
+use Rattle.replaying.specs.Numerals.{number_in}
+use Rattle.replaying.specs.Parts.{lines_of, parts_of, words_of}
 use Rattle.replaying.specs.ReadBack.{ReadsBack, Sized, plain_line, plain_log}
-use Rattle.replaying.specs.Shown.{call_text, newline}
+use Rattle.auction.specs.Shown.{call_text}
+use Rattle.replaying.specs.Shown.{newline}
 use Rattle.replaying.proofs.LinesLeft.{asked_all, asked_more}
-use Rattle.replaying.proofs.Values.{some_value}
+use Rattle.replaying.proofs.Values.{own, some_value}
 
 -- ---- parts
 
@@ -29,25 +32,19 @@ lacks_append : (sep : ℕ) (a b : List ℕ) → lacks sep a ≡ true → lacks s
 lacks_append sep [] b h k = k
 lacks_append sep (x ∷ a) b h k = let p = and_parts (not (eqb x sep)) (lacks sep a) h in and_from (not (eqb x sep)) _ p.0 (lacks_append sep a b p.1 k)
 
+lacks_all : (sep : ℕ) (w : List ℕ) → lacks sep w ≡ true → All (λ b. eqb b sep ≡ false) w
+lacks_all sep [] h = All-nil (λ b. eqb b sep ≡ false)
+lacks_all sep (b ∷ w) h = let p = and_parts (not (eqb b sep)) (lacks sep w) h in All-cons (λ x. eqb x sep ≡ false) b w (not-true (eqb b sep) p.0) (lacks_all sep w p.1)
+
 -- a part with a separator behind it
 part_cut : (sep : ℕ) (w rest : List ℕ) → lacks sep w ≡ true → eqb sep sep ≡ true → parts_of sep (w ++ (sep ∷ rest)) ≡ w ∷ parts_of sep rest
-unfolding parts_of
-part_cut sep [] rest h e = ap (λ t. cond t ([] ∷ parts_of sep rest) (on_first sep (parts_of sep rest))) e
-part_cut sep (b ∷ w) rest h e =
-    let p = and_parts (not (eqb b sep)) (lacks sep w) h in
-    cond-false _ _ _ (not-true (eqb b sep) p.0) ∙ ap (on_first b) (part_cut sep w rest p.1 e)
+part_cut sep w rest h e = slice_split_at (λ b. eqb b sep) w sep rest (lacks_all sep w h) e
 
 -- one part
 part_whole : (sep : ℕ) (w : List ℕ) → lacks sep w ≡ true → parts_of sep w ≡ w ∷ []
-unfolding parts_of
-part_whole sep [] h = refl
-part_whole sep (b ∷ w) h = let p = and_parts (not (eqb b sep)) (lacks sep w) h in cond-false _ _ _ (not-true (eqb b sep) p.0) ∙ ap (on_first b) (part_whole sep w p.1)
+part_whole sep w h = slice_split_none (λ b. eqb b sep) w (lacks_all sep w h)
 
 -- ---- numbers
-
-own : IsNumeralModel (λ ds. all_ascii_digits ds ≡ true) (value_on 0)
-unfolding value_on
-own = numerals_by_fold _ tells_all_ascii_digits value_on (search rules)
 
 number_back : (n : ℕ) → n < 2 ^ 64 → number_in (decimal n) ≡ Some n
 number_back n h = some_value (decimal n) n (digits_decimal own n h) (decimal_nonempty n h) (digits_value-decimal own n h) h
@@ -68,15 +65,15 @@ module _ (w : List ℕ) (free : lacks 32 w ≡ true) where
   one_back : (n : ℕ) → n < 2 ^ 64 → said_by_words (words_of (w ++ (32 ∷ decimal n))) ≡ said_of_one w n
   one_back n h =
       ap said_by_words (part_cut 32 w (decimal n) free refl ∙ ap (λ ws. w ∷ ws) (part_whole 32 (decimal n) (decimal-lacks 32 n (omega arith) h)))
-      ∙ ap (λ o. with_number o (said_of_one w)) (number_back n h)
+      ∙ ap (option_and_then (said_of_one w)) (number_back n h)
 
   two_back : (m n : ℕ) → m < 2 ^ 64 → n < 2 ^ 64 → said_by_words (words_of (w ++ (32 ∷ (decimal m ++ (32 ∷ decimal n))))) ≡ said_of_two w m n
   two_back m n h k =
       ap said_by_words (part_cut 32 w (decimal m ++ (32 ∷ decimal n)) free refl
       ∙ ap (λ ws. w ∷ ws) (part_cut 32 (decimal m) (decimal n) (decimal-lacks 32 m (omega arith) h) refl ∙ ap (λ ws. decimal m ∷ ws) (part_whole 32 (decimal n) (decimal-lacks 32 n (omega arith) k))))
-      ∙ ap (λ o. with_number o (λ a. with_number (number_in (decimal n)) (said_of_two w a))) (number_back m h) ∙ ap (λ o. with_number o (said_of_two w m)) (number_back n k)
+      ∙ ap (option_and_then (λ a. option_and_then (said_of_two w a) (number_in (decimal n)))) (number_back m h) ∙ ap (option_and_then (said_of_two w m)) (number_back n k)
 
-pub call_back : (c : Call) → Sized c → said_by (call_text c) ≡ Make c
+pub call_back : (c : Call) → Sized c → said_by (call_text c) ≡ Some (Make c)
 unfolding said_by
 call_back (Start step lanes) s = two_back (codes "start") refl step lanes s.0 s.1
 call_back (Summon i) s = one_back (codes "summon") refl i s
@@ -109,21 +106,20 @@ call_line AllCounts s = refl
 lines_of_lem : (c : Call) (rest : List ℕ) → Sized c → lines_of (plain_line c ++ rest) ≡ call_text c ∷ lines_of rest
 lines_of_lem c rest s = ap lines_of (append_assoc (call_text c) newline rest) ∙ part_cut 10 (call_text c) rest (call_line c s) refl
 
-blank : said_by [] ≡ Skip
-unfolding said_by parts_of
+blank : said_by [] ≡ Some Skip
+unfolding said_by
 blank = refl
 
-asked_back : (n : ℕ) (before calls : List Call) → AllByRecursion Sized calls → asked_from n (record { nearest = None; second = None; calls = before }) (lines_of (plain_log calls)) ≡ Ok (record { nearest = None; second = None; calls = before ++ calls })
-unfolding parts_of
+asked_back : (n : ℕ) (before calls : List Call) → AllByRecursion Sized calls → asked_from n (record { layers = no_layers; calls = before }) (lines_of (plain_log calls)) ≡ Ok (record { layers = no_layers; calls = before ++ calls })
 asked_back n before [] s =
-    asked_more n _ _ [] [] Skip (sym blank) refl ∙ asked_all (n + 1) _ ∙ ap (λ cs. Ok (record { nearest = None; second = None; calls = cs })) (sym (append-nil before))
+    asked_more n _ _ [] [] (ap (option_and_then (λ said. noted said (record { layers = no_layers; calls = before }))) blank) ∙ asked_all (n + 1) _ ∙ ap (λ cs. Ok (record { layers = no_layers; calls = cs })) (sym (append-nil before))
 asked_back n before (c ∷ calls) s =
-    ap (asked_from n (record { nearest = None; second = None; calls = before })) (lines_of_lem c (plain_log calls) s.0)
-    ∙ asked_more n _ _ (call_text c) (lines_of (plain_log calls)) (Make c) (sym (call_back c s.0)) refl
+    ap (asked_from n (record { layers = no_layers; calls = before })) (lines_of_lem c (plain_log calls) s.0)
+    ∙ asked_more n _ _ (call_text c) (lines_of (plain_log calls)) (ap (option_and_then (λ said. noted said (record { layers = no_layers; calls = before }))) (call_back c s.0))
     ∙ asked_back (n + 1) (before ++ (c ∷ [])) calls s.1
-    ∙ ap (λ cs. Ok (record { nearest = None; second = None; calls = cs })) (append_assoc before (c ∷ []) calls)
+    ∙ ap (λ cs. Ok (record { layers = no_layers; calls = cs })) (append_assoc before (c ∷ []) calls)
 
-pub log_back : (calls : List Call) → AllByRecursion Sized calls → length (plain_log calls) ≤ 65536 → asked_in (plain_log calls) ≡ Ok (record { nearest = None; second = None; calls = calls })
+pub log_back : (calls : List Call) → AllByRecursion Sized calls → length (plain_log calls) ≤ 65536 → asked_in (plain_log calls) ≡ Ok (record { layers = no_layers; calls = calls })
 unfolding asked_in
 log_back calls s h = cond-false _ _ _ (le-ltb 65536 (length (plain_log calls)) h) ∙ asked_back 1 [] calls s
 

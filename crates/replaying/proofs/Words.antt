@@ -1,66 +1,52 @@
--- What the words of a line say.
-use Rattle.std.proofs.Common.{◌≡◌, ℕ, ◌+◌, ◌-◌, ◌<◌, ◌≤◌, List, [], ◌∷◌, length, take, drop, Some, None, sym, refl, ap, ◌∙◌, ⊎_elim, arith}
-use Rattle.std.proofs.lemmas.List.{take_all, take_rest}
-use Rattle.std.proofs.lemmas.Bool.{cases_lt}
-use Rattle.replaying.specs.declared.line.Said.TheVariants.{Unclear}
-use Rattle.replaying.specs.Lines.{said_by_words, said_of_one, said_of_two, with_number}
-use Rattle.replaying.specs.Numerals.{number_in}
-use Rattle.replaying.specs.Parts.{first_part, words_of}
-use Rattle.replaying.proofs.Cuts.{cut_inside, cut_last, first_take}
+-- A line by its words.
+use Rattle.std.proofs.Common.{◌≡◌, ℕ, Bool, false, eqb, List, [], ◌∷◌, is_some, Some, None, Option, get_or, sym, refl, ap, ◌∙◌}
+use Rattle.std.proofs.lemmas.Bool.{cond-false}
+use Rattle.std.proofs.lemmas.Iterator.Splits.{YieldsList-from_slice_split}
+use Rattle.std.specs.Fn.{CalledAt}
+use Rattle.std.specs.Iterator.{AlwaysYields}
+use Rattle.std.specs.Slice.Iter.{split_callee, split_done, split_rest, split_steps}
+use denote.Param.Members.{Mut}
+use denote.Ref.{Bor}
+use Rattle.std.specs.Option.{option_map}
+use Rattle.replaying.specs.declared.line.Said.{Said}
+use Rattle.replaying.specs.Lines.{said_by, said_by_words, said_with}
+use Rattle.replaying.specs.Parts.{words_of}
 
--- there is always a first part
-pub words_some : (line : List ℕ) → (p : List ℕ) × (ps : List (List ℕ)) × (words_of line ≡ p ∷ ps)
-words_some line =
-    ⊎_elim (λ h. (first_part 32 line, words_of (drop (length (first_part 32 line) + 1) line), cut_inside 32 line h)) (λ h. (line, [], cut_last 32 line h))
-    (cases_lt (length (first_part 32 line)) (length line))
+-- what an iterator gives first, and what is left behind it
+module _ {S A B : Type 0} (steps : S → Option A → S → Type 0) (v : A → B) where
+  pub record Behind (t : S) (x : A) (ys : List B) : Type 0 where
+    pub rest : List B
+    pub is : ys ≡ v x ∷ rest
+    pub yields : AlwaysYields steps v t rest
 
-no_number : (w a : List ℕ) (ws : List (List ℕ)) → number_in a ≡ None → Unclear ≡ said_by_words (w ∷ (a ∷ ws))
-no_number w a [] e = sym (ap (λ o. with_number o (said_of_one w)) e)
-no_number w a (b ∷ []) e = sym (ap (λ o. with_number o (λ m. with_number (number_in b) (said_of_two w m))) e)
-no_number w a (b ∷ (c ∷ ws)) e = refl
+  an_item : (s t : S) (x : A) (ys : List B) → steps s (Some x) t → AlwaysYields steps v s ys → Behind t x ys
+  an_item s t x [] k h = absurd (h x t k)
+  an_item s t x (y ∷ ys) k h = let m = h.1 x t k in record { rest = ys; is = ap (λ z. z ∷ ys) (sym m.0); yields = m.1 }
 
-module _ (line : List ℕ) (n : ℕ) (first : n ≡ length (first_part 32 line)) where
-  first_is : take n line ≡ first_part 32 line
-  first_is = ap (λ k. take k line) first ∙ first_take 32 line
+  no_item : (s t : S) (ys : List B) → steps s None t → AlwaysYields steps v s ys → ys ≡ []
+  no_item s t [] k h = refl
+  no_item s t (y ∷ ys) k h = absurd (h.0 t k)
 
-  -- one word
-  pub words_one : length line ≤ n → words_of line ≡ take n line ∷ []
-  words_one all = cut_last 32 line (omega (arith, first)) ∙ ap (λ l. l ∷ []) (sym (take_all n line all))
+-- what a word says, and the three words that are asked for behind it
+module _ {S A : Type 0} (steps : S → Option A → S → Type 0) (v : A → List ℕ) (w : List ℕ) where
+  said_third : (s t : S) (a b : List ℕ) (o : Option A) (ws : List (List ℕ)) → steps s o t → AlwaysYields steps v s ws → said_with w (Some a) (Some b) (is_some o) ≡ said_by_words (w ∷ (a ∷ (b ∷ ws)))
+  said_third s t a b None ws k h = ap (λ r. said_by_words (w ∷ (a ∷ (b ∷ r)))) (sym (no_item steps v s t ws k h))
+  said_third s t a b (Some c) ws k h = ap (λ r. said_by_words (w ∷ (a ∷ (b ∷ r)))) (sym (an_item steps v s t c ws k h).is)
 
-  -- a word, and others behind it
-  pub words_more : n < length line → words_of line ≡ take n line ∷ words_of (take (length line - (n + 1)) (drop (n + 1) line))
-  words_more h =
-      cut_inside 32 line (omega (arith, first)) ∙ ap (λ l. l ∷ words_of (drop (length (first_part 32 line) + 1) line)) (sym first_is)
-      ∙ ap (λ k. take n line ∷ words_of (drop (k + 1) line)) (sym first) ∙ ap (λ l. take n line ∷ words_of l) (sym (take_rest line (n + 1)))
+  said_second : (s t u : S) (a : List ℕ) (o p : Option A) (ws : List (List ℕ)) → steps s o t → steps t p u → AlwaysYields steps v s ws → said_with w (Some a) (option_map v o) (is_some p) ≡ said_by_words (w ∷ (a ∷ ws))
+  said_second s t u a None p ws k l h = ap (λ r. said_by_words (w ∷ (a ∷ r))) (sym (no_item steps v s t ws k h))
+  said_second s t u a (Some b) p ws k l h = let m = an_item steps v s t b ws k h in said_third t u a (v b) p m.rest l m.yields ∙ ap (λ r. said_by_words (w ∷ (a ∷ r))) (sym m.is)
 
-  module _ (w : List ℕ) where
-    pub said_no_first : None ≡ number_in (take n line) → Unclear ≡ said_by_words (w ∷ words_of line)
-    said_no_first e =
-        ⊎_elim (λ h. no_number w (take n line) (words_of (take (length line - (n + 1)) (drop (n + 1) line))) (sym e) ∙ sym (ap (λ ws. said_by_words (w ∷ ws)) (words_more h)))
-        (λ h. no_number w (take n line) [] (sym e) ∙ sym (ap (λ ws. said_by_words (w ∷ ws)) (words_one h)))
-        (cases_lt n (length line))
+  pub said_first : (s t u x : S) (o p q : Option A) (ws : List (List ℕ)) → steps s o t → steps t p u → steps u q x → AlwaysYields steps v s ws → said_with w (option_map v o) (option_map v p) (is_some q) ≡ said_by_words (w ∷ ws)
+  said_first s t u x None p q ws k l n h = ap (λ r. said_by_words (w ∷ r)) (sym (no_item steps v s t ws k h))
+  said_first s t u x (Some a) p q ws k l n h = let m = an_item steps v s t a ws k h in said_second t u x (v a) p q m.rest l n m.yields ∙ ap (λ r. said_by_words (w ∷ r)) (sym m.is)
 
-    pub said_one : (a : ℕ) → Some a ≡ number_in (take n line) → length line ≤ n → said_of_one w a ≡ said_by_words (w ∷ words_of line)
-    said_one a e h = ap (λ o. with_number o (said_of_one w)) e ∙ sym (ap (λ ws. said_by_words (w ∷ ws)) (words_one h))
-
-    module _ (last : List ℕ) (is : last ≡ take (length line - (n + 1)) (drop (n + 1) line)) (h : n < length line) where
-      behind : words_of line ≡ take n line ∷ words_of last
-      behind = words_more h ∙ ap (λ l. take n line ∷ words_of l) (sym is)
-
-      pub said_many : length (first_part 32 last) < length last → Unclear ≡ said_by_words (w ∷ words_of line)
-      said_many more =
-          let l = words_some (drop (length (first_part 32 last) + 1) last) in
-          sym (ap (λ ws. said_by_words (w ∷ ws)) (behind ∙ ap (λ ws. take n line ∷ ws) (cut_inside 32 last more ∙ ap (λ ws. first_part 32 last ∷ ws) l.2)))
-
-      two_words : length last ≤ length (first_part 32 last) → words_of line ≡ take n line ∷ (last ∷ [])
-      two_words all = behind ∙ ap (λ ws. take n line ∷ ws) (cut_last 32 last all)
-
-      pub said_two : (a b : ℕ) → Some a ≡ number_in (take n line) → Some b ≡ number_in last → length last ≤ length (first_part 32 last) → said_of_two w a b ≡ said_by_words (w ∷ words_of line)
-      said_two a b e f all =
-          ap (λ o. with_number o (said_of_two w a)) f ∙ ap (λ o. with_number o (λ m. with_number (number_in last) (said_of_two w m))) e
-          ∙ sym (ap (λ ws. said_by_words (w ∷ ws)) (two_words all))
-
-      pub said_no_second : (a : ℕ) → Some a ≡ number_in (take n line) → None ≡ number_in last → length last ≤ length (first_part 32 last) → Unclear ≡ said_by_words (w ∷ words_of line)
-      said_no_second a e f all =
-          ap (λ o. with_number o (said_of_two w a)) f ∙ ap (λ o. with_number o (λ m. with_number (number_in last) (said_of_two w m))) e
-          ∙ sym (ap (λ ws. said_by_words (w ∷ ws)) (two_words all))
+-- a line that is no comment
+pub said_line : {F : Type 0} (g : Mut F (Bor ℕ × Unit {0}) Bool) {f : F} (line : List ℕ) (said : Option Said) (s t u x y : _) (w : Bor (List ℕ)) (o p q : Option (Bor (List ℕ)))
+    → eqb (get_or line 0 0) 35 ≡ false → said ≡ said_with w.now (option_map (λ x. x.now) o) (option_map (λ x. x.now) p) (is_some q)
+    → split_steps g s (Some w) t → split_steps g t o u → split_steps g u p x → split_steps g x q y → split_rest s ≡ line → split_done s ≡ false → split_callee s ≡ f
+    → ((x : ℕ) (b : Bool) (q : F) → CalledAt g f x b q → (q ≡ f) × (b ≡ eqb x 32)) → said ≡ said_by line
+unfolding said_by
+said_line g line said s t u x y w o p q plain is k l n z rest done closure tests =
+    let m = an_item (split_steps g) (λ x. x.now) s t w (words_of line) k (YieldsList-from_slice_split g (λ b. eqb b 32) line rest done closure tests).runs in
+    is ∙ said_first (split_steps g) (λ x. x.now) w.now t u x y o p q m.rest l n z m.yields ∙ sym (cond-false _ _ _ plain ∙ ap said_by_words m.is)

@@ -1,56 +1,59 @@
--- What a line of a log says.
-use Rattle.std.specs.Prelude.{ℕ, ◌^◌, cond, List, [], ◌∷◌, Some, None, codes, Option, ◌==◌, nat_lt, slice_index}
+-- What a line of a log says; none if it is not understood.
+use Rattle.std.specs.Prelude.{ℕ, ◌^◌, Bool, cond, List, [], ◌∷◌, Some, None, codes, Option, ◌==◌, nat_lt, slice_index}
+use Rattle.std.specs.Option.{option_and_then}
 use Rattle.std.specs.Str.{bytes_eq}
 use Rattle.auction.specs.declared.call.Call.TheVariants.{Start, Summon, Look, Settle, Run, PriceOf, HolderOf, StandingOf, TotalWorth, AllCounts}
 use Rattle.replaying.specs.declared.line.Layer.TheVariants.{Times, Floor}
 use Rattle.replaying.specs.declared.line.Said.{Said}
-use Rattle.replaying.specs.declared.line.Said.TheVariants.{Skip, Put, Make, Unclear}
+use Rattle.replaying.specs.declared.line.Said.TheVariants.{Skip, Put, Make}
 use Rattle.replaying.specs.Numerals.{number_in}
 use Rattle.replaying.specs.Parts.{words_of}
 
 -- A word alone. A blank line is one empty word.
-abbrev pub said_alone : List ℕ → Said
+abbrev pub said_alone : List ℕ → Option Said
 said_alone word =
-    cond (bytes_eq word (codes "")) Skip (
-    cond (bytes_eq word (codes "worth")) (Make TotalWorth) (
-    cond (bytes_eq word (codes "counts")) (Make AllCounts)
-    Unclear))
+    cond (bytes_eq word (codes "")) (Some Skip) (
+    cond (bytes_eq word (codes "worth")) (Some (Make TotalWorth)) (
+    cond (bytes_eq word (codes "counts")) (Some (Make AllCounts))
+    None))
 
 -- A times layer has a factor below 2 ^ 32.
-abbrev pub said_times : ℕ → Said
-said_times g = cond (nat_lt g (2 ^ 32)) (Put (Times g)) Unclear
+abbrev pub said_times : ℕ → Option Said
+said_times g = cond (nat_lt g (2 ^ 32)) (Some (Put (Times g))) None
 
 -- A word and a number.
-abbrev pub said_of_one : List ℕ → ℕ → Said
+abbrev pub said_of_one : List ℕ → ℕ → Option Said
 said_of_one word n =
-    cond (bytes_eq word (codes "summon")) (Make (Summon n)) (
-    cond (bytes_eq word (codes "look")) (Make (Look n)) (
-    cond (bytes_eq word (codes "settle")) (Make (Settle n)) (
-    cond (bytes_eq word (codes "price")) (Make (PriceOf n)) (
-    cond (bytes_eq word (codes "holder")) (Make (HolderOf n)) (
-    cond (bytes_eq word (codes "standing")) (Make (StandingOf n)) (
+    cond (bytes_eq word (codes "summon")) (Some (Make (Summon n))) (
+    cond (bytes_eq word (codes "look")) (Some (Make (Look n))) (
+    cond (bytes_eq word (codes "settle")) (Some (Make (Settle n))) (
+    cond (bytes_eq word (codes "price")) (Some (Make (PriceOf n))) (
+    cond (bytes_eq word (codes "holder")) (Some (Make (HolderOf n))) (
+    cond (bytes_eq word (codes "standing")) (Some (Make (StandingOf n))) (
     cond (bytes_eq word (codes "times")) (said_times n) (
-    cond (bytes_eq word (codes "floor")) (Put (Floor n))
-    Unclear)))))))
+    cond (bytes_eq word (codes "floor")) (Some (Put (Floor n)))
+    None)))))))
 
 -- A word and two numbers.
-abbrev pub said_of_two : List ℕ → ℕ → ℕ → Said
+abbrev pub said_of_two : List ℕ → ℕ → ℕ → Option Said
 said_of_two word a b =
-    cond (bytes_eq word (codes "start")) (Make (Start a b)) (
-    cond (bytes_eq word (codes "run")) (Make (Run a b))
-    Unclear)
+    cond (bytes_eq word (codes "start")) (Some (Make (Start a b))) (
+    cond (bytes_eq word (codes "run")) (Some (Make (Run a b)))
+    None)
 
-abbrev pub with_number : Option ℕ → (ℕ → Said) → Said
-with_number None f = Unclear
-with_number (Some n) f = f n
+-- A word, and up to two numbers behind it; more words are not understood.
+abbrev pub said_with : List ℕ → Option (List ℕ) → Option (List ℕ) → Bool → Option Said
+said_with w None second more = said_alone w
+said_with w (Some a) None more = option_and_then (said_of_one w) (number_in a)
+said_with w (Some a) (Some b) more = cond more None (option_and_then (λ m. option_and_then (said_of_two w m) (number_in b)) (number_in a))
 
-abbrev pub said_by_words : List (List ℕ) → Said
-said_by_words [] = Unclear
+abbrev pub said_by_words : List (List ℕ) → Option Said
+said_by_words [] = None
 said_by_words (w ∷ []) = said_alone w
-said_by_words (w ∷ (a ∷ [])) = with_number (number_in a) (said_of_one w)
-said_by_words (w ∷ (a ∷ (b ∷ []))) = with_number (number_in a) (λ m. with_number (number_in b) (said_of_two w m))
-said_by_words (w ∷ (a ∷ (b ∷ (c ∷ ws)))) = Unclear
+said_by_words (w ∷ (a ∷ [])) = option_and_then (said_of_one w) (number_in a)
+said_by_words (w ∷ (a ∷ (b ∷ []))) = option_and_then (λ m. option_and_then (said_of_two w m) (number_in b)) (number_in a)
+said_by_words (w ∷ (a ∷ (b ∷ (c ∷ ws)))) = None
 
 -- A line that begins with byte 35, `#`, is a comment.
-unfoldable pub said_by : List ℕ → Said
-said_by line = cond (slice_index line 0 == 35) Skip (said_by_words (words_of line))
+unfoldable pub said_by : List ℕ → Option Said
+said_by line = cond (slice_index line 0 == 35) (Some Skip) (said_by_words (words_of line))

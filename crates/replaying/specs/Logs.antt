@@ -1,5 +1,6 @@
 -- What a whole log asks for.
-use Rattle.std.specs.Prelude.{ℕ, ◌+◌, cond, List, [], ◌∷◌, ◌++◌, length, Some, None, Ok, Err, vec_items, Option, Result, ◌==◌, nat_lt}
+use Rattle.std.specs.Prelude.{◌≡◌, ℕ, ◌+◌, cond, List, [], ◌∷◌, ◌++◌, length, Some, None, Ok, Err, vec_items, Option, Result, ◌==◌, nat_lt}
+use Rattle.std.specs.Option.{option_and_then, option_map}
 use Rattle.refusals.specs.declared.Refusal.TheVariants.{TooShort}
 use Rattle.sources.specs.Layers.{floor_of, times_of}
 use Rattle.sources.specs.Meaning.{Meaning}
@@ -7,34 +8,45 @@ use Rattle.auction.specs.declared.call.Call.{Call}
 use Rattle.replaying.specs.declared.line.Layer.{Layer}
 use Rattle.replaying.specs.declared.line.Layer.TheVariants.{Times, Floor}
 use Rattle.replaying.specs.declared.line.Said.{Said}
-use Rattle.replaying.specs.declared.line.Said.TheVariants.{Skip, Put, Make, Unclear}
+use Rattle.replaying.specs.declared.line.Said.TheVariants.{Skip, Put, Make}
+use Rattle.replaying.specs.declared.log.Failure.{Failure}
+use Rattle.replaying.specs.declared.log.Failure.TheVariants.{Memory, Trouble as Troubled}
+use Rattle.replaying.specs.declared.log.Layers.{Layers}
 use Rattle.replaying.specs.declared.log.Log.{Log}
 use Rattle.replaying.specs.declared.log.Trouble.{Trouble}
 use Rattle.replaying.specs.declared.log.Trouble.TheVariants.{Calls, Line}
 use Rattle.replaying.specs.Lines.{said_by}
 use Rattle.replaying.specs.Parts.{lines_of}
 
--- The layer nearest the sheet and the one over it, if there are any, and the calls in their order.
+-- The layers, and the calls in their order.
 pub record Asked : Type 0 where
-  pub nearest : Option Layer
-  pub second : Option Layer
+  pub layers : Layers
   pub calls : List Call
 
-abbrev pub nothing_asked : Asked
-nothing_asked = record { nearest = None; second = None; calls = [] }
+abbrev pub no_layers : Layers
+no_layers = record { nearest = None; second = None }
 
--- A layer more: there is a place for two.
-abbrev pub layer_more : Layer → Option Layer → Option Layer → List Call → Option Asked
-layer_more l None second calls = Some (record { nearest = Some l; second = second; calls = calls })
-layer_more l (Some k) None calls = Some (record { nearest = Some k; second = Some l; calls = calls })
-layer_more l (Some k) (Some j) calls = None
+abbrev pub nothing_asked : Asked
+nothing_asked = record { layers = no_layers; calls = [] }
+
+-- A layer more over the others: there is a place for two.
+abbrev pub layer_over : Layer → Option Layer → Option Layer → Option Layers
+layer_over l None second = Some (record { nearest = Some l; second = second })
+layer_over l (Some k) None = Some (record { nearest = Some k; second = Some l })
+layer_over l (Some k) (Some j) = None
+
+abbrev pub layer_more : Layer → Layers → Option Layers
+layer_more l s = layer_over l s.nearest s.second
 
 -- What is asked after one more line, or none if it cannot stand there: a layer stands before every call.
 abbrev pub noted : Said → Asked → Option Asked
 noted Skip a = Some a
-noted (Put l) a = cond (length a.calls == 0) (layer_more l a.nearest a.second a.calls) None
-noted (Make c) a = Some (record { nearest = a.nearest; second = a.second; calls = a.calls ++ (c ∷ []) })
-noted Unclear a = None
+noted (Put l) a = cond (length a.calls == 0) (option_map (λ s. record { layers = s; calls = a.calls }) (layer_more l a.layers)) None
+noted (Make c) a = Some (record { layers = a.layers; calls = a.calls ++ (c ∷ []) })
+
+-- The same, or none if the line is not understood.
+abbrev pub noted_by : List ℕ → Asked → Option Asked
+noted_by line a = option_and_then (λ said. noted said a) (said_by line)
 
 -- What follows a line: the rest, or the line's number if it has none.
 abbrev pub or_line : ℕ → Option Asked → (Asked → Result Asked Trouble) → Result Asked Trouble
@@ -44,7 +56,7 @@ or_line n (Some a) f = f a
 -- The lines from the one numbered n on. The first that is not understood, or cannot stand where it stands, is named.
 unfoldable pub asked_from : ℕ → Asked → List (List ℕ) → Result Asked Trouble
 asked_from n a [] = Ok a
-asked_from n a (line ∷ lines) = or_line n (noted (said_by line) a) (λ b. asked_from (n + 1) b lines)
+asked_from n a (line ∷ lines) = or_line n (noted_by line a) (λ b. asked_from (n + 1) b lines)
 
 -- A whole log of at most 65,536 bytes; its lines are numbered from 1.
 unfoldable pub asked_in : List ℕ → Result Asked Trouble
@@ -52,11 +64,19 @@ asked_in text = cond (nat_lt 65536 (length text)) (Err (Calls TooShort)) (asked_
 
 -- What the code holds of a log.
 abbrev pub held_in : Log → Asked
-held_in log = record { nearest = log.nearest; second = log.second; calls = vec_items log.calls }
+held_in log = record { layers = log.layers; calls = vec_items log.calls }
 
-abbrev pub read_as : Result Log Trouble → Result Asked Trouble
-read_as (Ok log) = Ok (held_in log)
-read_as (Err t) = Err t
+-- What comes of taking in the line numbered n: what is asked then, or the line's number. Nothing is said where memory ran out.
+abbrev pub Notes : ℕ → Option Asked → Asked → Result (Unit {0}) Failure → Type 0
+Notes n o new (Ok x) = o ≡ Some new
+Notes n o new (Err Memory) = Unit {0}
+Notes n o new (Err (Troubled t)) = (o ≡ None) × (t ≡ Line n)
+
+-- What comes of reading a log.
+abbrev pub Reads : Result Asked Trouble → Result Log Failure → Type 0
+Reads r (Ok log) = r ≡ Ok (held_in log)
+Reads r (Err Memory) = Unit {0}
+Reads r (Err (Troubled t)) = r ≡ Err t
 
 -- A source under a layer, or under none.
 abbrev pub under : Option Layer → Meaning → Meaning
@@ -66,4 +86,4 @@ under (Some (Floor f)) m = floor_of f m
 
 -- A source under the layers of a log, the first one nearest.
 abbrev pub layered : Asked → Meaning → Meaning
-layered a m = under a.second (under a.nearest m)
+layered a m = under a.layers.second (under a.layers.nearest m)

@@ -1,11 +1,14 @@
 -- What comes of replaying any log over any sheet file.
-use Rattle.std.specs.Prelude.{◌≡◌, ℕ, List, ◌++◌, Some, None, Ok, Err, string_bytes, codes, decimal, Result}
+use Rattle.std.specs.Prelude.{◌≡◌, ℕ, List, ◌++◌, Some, None, Ok, Err, string_bytes, codes, decimal, Result, String}
 use Rattle.refusals.specs.declared.Fault.{Fault}
 use Rattle.refusals.specs.Faults.{fault_text}
 use Rattle.refusals.specs.Reasons.{refusal_text}
 use Rattle.sources.specs.Meaning.{Meaning}
 use Rattle.auction.specs.Calls.{answers_from}
-use Rattle.replaying.specs.declared.Outcome.{Outcome}
+use Rattle.std.specs.declared.alloc.Global.{Global}
+use Rattle.texts.specs.declared.Printed.{Printed}
+use Rattle.replaying.specs.declared.log.Failure.{Failure}
+use Rattle.replaying.specs.declared.log.Failure.TheVariants.{Memory, Trouble as Troubled}
 use Rattle.replaying.specs.declared.log.Trouble.{Trouble}
 use Rattle.replaying.specs.declared.log.Trouble.TheVariants.{Calls, Line, Sheet}
 use Rattle.replaying.specs.Logs.{Asked, layered}
@@ -18,11 +21,23 @@ trouble_text (Line n) = codes "line " ++ (decimal n ++ codes " is not understood
 trouble_text (Sheet f) = codes "refused " ++ fault_text f
 
 -- Nothing is replayed: the trouble is told, and its line is the text.
-abbrev pub TellsTrouble : Outcome → Trouble → Type 0
-TellsTrouble o t = (string_bytes o.text ≡ trouble_text t ++ newline) × (o.trouble ≡ Some t)
+abbrev pub TellsTrouble : Printed Trouble → Trouble → Type 0
+TellsTrouble p t = (string_bytes p.text ≡ trouble_text t ++ newline) × (p.refused ≡ Some t)
 
--- An outcome tells this of what a log asks for and what a sheet file comes to. The log's trouble comes before the sheet's.
-abbrev pub Tells : Outcome → Result Asked Trouble → Result Meaning Fault → Type 0
-Tells o (Err t) sheet = TellsTrouble o t
-Tells o (Ok a) (Err f) = TellsTrouble o (Sheet f)
-Tells o (Ok a) (Ok m) = (string_bytes o.text ≡ answer_lines a.calls (answers_from (layered a m) None a.calls)) × (o.trouble ≡ None)
+-- What is printed tells this of what a log asks for and what a sheet file comes to. The log's trouble comes before the sheet's.
+abbrev pub Tells : Printed Trouble → Result Asked Trouble → Result Meaning Fault → Type 0
+Tells p (Err t) sheet = TellsTrouble p t
+Tells p (Ok a) (Err f) = TellsTrouble p (Sheet f)
+Tells p (Ok a) (Ok m) = (string_bytes p.text ≡ answer_lines a.calls (answers_from (layered a m) None a.calls)) × (p.refused ≡ None)
+
+-- The text of a replay, or why there is none.
+abbrev pub replayed : Result Asked Trouble → Result Meaning Fault → Result (List ℕ) Trouble
+replayed (Err t) sheet = Err t
+replayed (Ok a) (Err f) = Err (Sheet f)
+replayed (Ok a) (Ok m) = Ok (answer_lines a.calls (answers_from (layered a m) None a.calls))
+
+-- What comes of a replay. Nothing is said where memory ran out.
+abbrev pub Replays : Result (List ℕ) Trouble → Result (String Global) Failure → Type 0
+Replays r (Ok text) = r ≡ Ok (string_bytes text)
+Replays r (Err Memory) = Unit {0}
+Replays r (Err (Troubled t)) = r ≡ Err t

@@ -1,12 +1,13 @@
 -- A printed call is read back as that call.
-use Rattle.std.specs.Prelude.{◌≡◌, ℕ, ◌^◌, ◌<◌, ◌≤◌, List, ◌++◌, length, None, Ok}
+use Rattle.std.specs.Prelude.{◌≡◌, ℕ, ◌^◌, ◌<◌, ◌≤◌, List, ◌++◌, length, Some, Ok}
 use Rattle.std.specs.List.{flat_map, AllByRecursion}
 use Rattle.auction.specs.declared.call.Call.{Call}
 use Rattle.auction.specs.declared.call.Call.TheVariants.{Start, Summon, Look, Settle, Run, PriceOf, HolderOf, StandingOf, TotalWorth, AllCounts}
 use Rattle.replaying.specs.declared.line.Said.TheVariants.{Make}
 use Rattle.replaying.specs.Lines.{said_by}
-use Rattle.replaying.specs.Logs.{asked_in}
-use Rattle.replaying.specs.Shown.{call_text, newline}
+use Rattle.replaying.specs.Logs.{asked_in, no_layers}
+use Rattle.auction.specs.Shown.{call_text}
+use Rattle.replaying.specs.Shown.{newline}
 
 -- The numbers of a call have 64 bits, as those of every call in the code.
 abbrev pub Sized : Call → Type 0
@@ -30,5 +31,5 @@ plain_log calls = flat_map plain_line calls
 
 -- Every call's plain form says that call; and the log of any calls, if it has at most 65,536 bytes, asks for these calls under no layer.
 pub record ReadsBack : Type 0 where
-  pub call : (c : Call) → Sized c → said_by (call_text c) ≡ Make c
-  pub log : (calls : List Call) → AllByRecursion Sized calls → length (plain_log calls) ≤ 65536 → asked_in (plain_log calls) ≡ Ok (record { nearest = None; second = None; calls = calls })
+  pub call : (c : Call) → Sized c → said_by (call_text c) ≡ Some (Make c)
+  pub log : (calls : List Call) → AllByRecursion Sized calls → length (plain_log calls) ≤ 65536 → asked_in (plain_log calls) ≡ Ok (record { layers = no_layers; calls = calls })

@@ -1,11 +1,11 @@
 // What a line of a log says.
-ghost use Rattle.replaying.specs.Lines.{said_alone, said_by, said_by_words, said_of_one, said_of_two, said_times};
-ghost use Rattle.replaying.specs.Parts.{words_of};
-ghost use Rattle.std.specs.Str.{bytes_eq};
-ghost use Rattle.std.specs.Prelude.{◌≡◌, ◌∷◌, ◌==◌, slice_index};
+ghost use Rattle.replaying.specs.Lines.{said_alone, said_by, said_of_one, said_of_two, said_with};
+ghost use Rattle.replaying.specs.Numerals.{number_in};
+ghost use Rattle.std.specs.Option.{option_map};
+ghost use Rattle.std.specs.Prelude.{◌≡◌, is_some};
 
-use crate::parts::{first_len, number};
 use auction::call::Call;
+use std::str;
 
 // A layer that is put over the source.
 #[derive(Clone, Copy)]
@@ -14,131 +14,95 @@ pub(crate) enum Layer {
     Floor(u64),
 }
 
-// A blank line or a comment says nothing; a line that is not understood is unclear.
+// A blank line or a comment says nothing.
 #[derive(Clone, Copy)]
 pub(crate) enum Said {
     Skip,
     Put(Layer),
     Make(Call),
-    Unclear,
-}
-
-// Whether two words have the same bytes.
-fn same(word: &[u8], other: &[u8]) -> bool
-    ensures { result ≡ bytes_eq word.now other.now }
-{
-    word == other
 }
 
 // What a word alone says.
-fn alone(word: &[u8]) -> Said
+fn alone(word: &[u8]) -> Option<Said>
     ensures { result ≡ said_alone word.now }
 {
-    if same(word, b"") {
-        Said::Skip
-    } else if same(word, b"worth") {
-        Said::Make(Call::TotalWorth)
-    } else if same(word, b"counts") {
-        Said::Make(Call::AllCounts)
-    } else {
-        Said::Unclear
+    match word {
+        b"" => Some(Said::Skip),
+        b"worth" => Some(Said::Make(Call::TotalWorth)),
+        b"counts" => Some(Said::Make(Call::AllCounts)),
+        _ => None,
     }
 }
 
-// A times layer, if the factor is below 2^32.
-fn times(factor: u64) -> Said
-    ensures { result ≡ said_times factor }
-{
-    if factor <= u64::from(u32::MAX) {
-        Said::Put(Layer::Times(factor as u32))
-    } else {
-        Said::Unclear
-    }
-}
-
-// What a word and a number say.
-fn with_one(word: &[u8], n: u64) -> Said
+// What a word and a number say. A times layer has a factor below 2^32.
+fn with_one(word: &[u8], n: u64) -> Option<Said>
     ensures { result ≡ said_of_one word.now n }
 {
-    if same(word, b"summon") {
-        Said::Make(Call::Summon(n as usize))
-    } else if same(word, b"look") {
-        Said::Make(Call::Look(n as usize))
-    } else if same(word, b"settle") {
-        Said::Make(Call::Settle(n as usize))
-    } else if same(word, b"price") {
-        Said::Make(Call::PriceOf(n as usize))
-    } else if same(word, b"holder") {
-        Said::Make(Call::HolderOf(n as usize))
-    } else if same(word, b"standing") {
-        Said::Make(Call::StandingOf(n as usize))
-    } else if same(word, b"times") {
-        times(n)
-    } else if same(word, b"floor") {
-        Said::Put(Layer::Floor(n))
-    } else {
-        Said::Unclear
+    match word {
+        b"summon" => Some(Said::Make(Call::Summon(n as usize))),
+        b"look" => Some(Said::Make(Call::Look(n as usize))),
+        b"settle" => Some(Said::Make(Call::Settle(n as usize))),
+        b"price" => Some(Said::Make(Call::PriceOf(n as usize))),
+        b"holder" => Some(Said::Make(Call::HolderOf(n as usize))),
+        b"standing" => Some(Said::Make(Call::StandingOf(n as usize))),
+        b"times" => Some(Said::Put(Layer::Times(u32::try_from(n).ok()?))),
+        b"floor" => Some(Said::Put(Layer::Floor(n))),
+        _ => None,
     }
 }
 
 // What a word and two numbers say.
-fn with_two(word: &[u8], a: u64, b: u64) -> Said
+fn with_two(word: &[u8], a: u64, b: u64) -> Option<Said>
     ensures { result ≡ said_of_two word.now a b }
 {
-    if same(word, b"start") {
-        Said::Make(Call::Start {
+    match word {
+        b"start" => Some(Said::Make(Call::Start {
             step: a,
             lanes: b as usize,
-        })
-    } else if same(word, b"run") {
-        Said::Make(Call::Run {
+        })),
+        b"run" => Some(Said::Make(Call::Run {
             depth: a as usize,
             budget: b,
-        })
-    } else {
-        Said::Unclear
+        })),
+        _ => None,
     }
 }
 
-// Whether a line begins with `#`.
-fn is_comment(line: &[u8]) -> bool
-    ensures { result ≡ (slice_index line.now 0 == 35) }
+// The decimal number that a word is, if it is one below 2^64.
+fn number(word: &[u8]) -> Option<u64>
+    ensures { result ≡ number_in word.now }
 {
-    !line.is_empty() && line[0] == b'#'
+    // The library would read a `+` in front.
+    if word.starts_with(b"+") {
+        return None;
+    }
+    str::from_utf8(word).ok()?.parse().ok()
 }
 
-// What a line says.
-pub(crate) fn said_in(line: &[u8]) -> Said
+// What a word says with the words behind it, as far as there are any.
+fn by_words(
+    word: &[u8],
+    first: Option<&[u8]>,
+    second: Option<&[u8]>,
+    third: Option<&[u8]>,
+) -> Option<Said>
+    ensures { result ≡ said_with word.now (option_map (λ w. w.now) first.entry) (option_map (λ w. w.now) second.entry) (is_some third.entry) }
+{
+    match (first, second, third) {
+        (None, _, _) => alone(word),
+        (Some(a), None, _) => with_one(word, number(a)?),
+        (Some(a), Some(b), None) => with_two(word, number(a)?, number(b)?),
+        (Some(_), Some(_), Some(_)) => None,
+    }
+}
+
+// What a line says; `None` if it is not understood.
+pub(crate) fn said_in(line: &[u8]) -> Option<Said>
     ensures { result ≡ said_by line.now }
 {
-    if is_comment(line) {
-        return Said::Skip;
+    if line.starts_with(b"#") {
+        return Some(Said::Skip);
     }
-    let first = first_len(line, b' ');
-    let word = &line[..first];
-    if first == line.len() {
-        return alone(word);
-    }
-    numbered(word, &line[first + 1..])
-}
-
-// What a word says with the words behind it.
-fn numbered(word: &[u8], rest: &[u8]) -> Said
-    ensures { result ≡ said_by_words (word.now ∷ words_of rest.now) }
-{
-    let first = first_len(rest, b' ');
-    let Some(a) = number(&rest[..first]) else {
-        return Said::Unclear;
-    };
-    if first == rest.len() {
-        return with_one(word, a);
-    }
-    let last = &rest[first + 1..];
-    if first_len(last, b' ') < last.len() {
-        return Said::Unclear;
-    }
-    match number(last) {
-        Some(b) => with_two(word, a, b),
-        None => Said::Unclear,
-    }
+    let mut words = line.split(|b| *b == b' ');
+    by_words(words.next()?, words.next(), words.next(), words.next())
 }

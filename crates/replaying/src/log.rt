@@ -1,14 +1,14 @@
 // A log: layers and calls, a line each.
-ghost use Rattle.std.specs.Prelude.{◌≡◌, ◌≤◌, length, IfOk, if◌then◌else◌, Some, None, nat_eq};
-ghost use Rattle.replaying.specs.Logs.{asked_from, asked_in, held_in, layer_more, noted, nothing_asked, read_as};
+ghost use Rattle.std.specs.Prelude.{◌≡◌, Some};
+ghost use Rattle.replaying.specs.Logs.{Notes, Reads, asked_in, held_in, layer_more, noted_by};
 ghost use Rattle.replaying.specs.Outcomes.{trouble_text};
-ghost use Rattle.replaying.specs.Parts.{lines_of};
+ghost use Rattle.replaying.specs.declared.log.Failure.TheVariants.{Memory, Trouble as Troubled};
 
 use crate::line::{Layer, Said, said_in};
-use crate::parts::first_len;
 use auction::call::Call;
 use refusals::{Fault, Refusal};
-use std::alloc::{AllocError, Global};
+use std::alloc::{AllocError, AllocFailed, Global};
+use std::error::Error;
 use std::fmt;
 
 // The most bytes of a log.
@@ -38,76 +38,102 @@ impl fmt::Display for Trouble {
     }
 }
 
-// The layers, the one nearest the sheet first, and the calls.
-#[derive(Drop)]
-pub(crate) struct Log {
+impl Error for Trouble {}
+
+// Why a step of a replay fails.
+#[derive(Clone, Copy)]
+pub(crate) enum Failure {
+    Memory,
+    Trouble(Trouble),
+}
+
+impl<T: Drop> From<AllocFailed<T>> for Failure {
+    ghost from_gives = { λ _ e. e ≡ Memory };
+
+    fn from(_failed: AllocFailed<T>) -> Failure {
+        Failure::Memory
+    }
+}
+
+impl From<AllocError> for Failure {
+    ghost from_gives = { λ _ e. e ≡ Memory };
+
+    fn from(_error: AllocError) -> Failure {
+        Failure::Memory
+    }
+}
+
+impl From<Trouble> for Failure {
+    ghost from_gives = { λ t e. e ≡ Troubled t };
+
+    fn from(trouble: Trouble) -> Failure {
+        Failure::Trouble(trouble)
+    }
+}
+
+// The layers of a log, at most two: the one nearest the sheet, and the one over it.
+#[derive(Clone, Copy, Default)]
+pub(crate) struct Layers {
     pub(crate) nearest: Option<Layer>,
     pub(crate) second: Option<Layer>,
+}
+
+impl Layers {
+    // With one layer more over the others, if there is a place for it.
+    fn with(self, layer: Layer) -> Option<Layers>
+        ensures { result ≡ layer_more layer self }
+    {
+        let Layers { nearest, second } = self;
+        match (nearest, second) {
+            (None, _) => Some(Layers {
+                nearest: Some(layer),
+                second,
+            }),
+            (Some(_), None) => Some(Layers {
+                nearest,
+                second: Some(layer),
+            }),
+            (Some(_), Some(_)) => None,
+        }
+    }
+}
+
+// The layers, which stand before every call, and the calls.
+#[derive(Drop)]
+pub(crate) struct Log {
+    pub(crate) layers: Layers,
     pub(crate) calls: Vec<Call>,
 }
 
 impl Log {
-    // Puts a layer over the others, if no call was read yet and there is a place for it, and tells whether it did.
-    fn put(&mut self, layer: Layer) -> bool
-        ensures { (if nat_eq (length self.old.calls.items) 0 then layer_more layer self.old.nearest self.old.second self.old.calls.items else None) ≡ (if result then Some (held_in self.new) else None) }
+    // Takes in the line of this number.
+    fn note(&mut self, number: usize, line: &[u8]) -> Result<(), Failure>
+        ensures { Notes number (noted_by line.now (held_in self.old)) (held_in self.new) result }
     {
-        if !self.calls.is_empty() {
-            return false;
+        let unread = Trouble::Line(number);
+        match said_in(line).ok_or(unread)? {
+            Said::Skip => {}
+            Said::Put(_) if !self.calls.is_empty() => return Err(unread.into()),
+            Said::Put(layer) => self.layers = self.layers.with(layer).ok_or(unread)?,
+            Said::Make(call) => self.calls.push(call)?,
         }
-        match (self.nearest, self.second) {
-            (None, _) => self.nearest = Some(layer),
-            (Some(_), None) => self.second = Some(layer),
-            (Some(_), Some(_)) => return false,
-        }
-        true
-    }
-
-    // Takes in what a line says, and tells whether it can stand there.
-    fn note(&mut self, said: Said) -> Result<bool, AllocError>
-        ensures { IfOk result (λ good. noted said (held_in self.old) ≡ (if good then Some (held_in self.new) else None)) }
-    {
-        match said {
-            Said::Skip => Ok(true),
-            Said::Put(layer) => Ok(self.put(layer)),
-            Said::Make(call) => {
-                self.calls.push(call)?;
-                Ok(true)
-            }
-            Said::Unclear => Ok(false),
-        }
+        Ok(())
     }
 }
 
-// Reads a log to its end, or to its first bad line.
-fn read_lines(heap: Global, text: &[u8]) -> Result<Result<Log, Trouble>, AllocError>
-    requires { length text.now ≤ 65536 }
-    ensures { IfOk result (λ x. read_as x ≡ asked_from 1 nothing_asked (lines_of text.now)) }
-{
-    let mut log = Log {
-        nearest: None,
-        second: None,
-        calls: Vec::new(heap),
-    };
-    let mut at = 0;
-    let mut line = 1;
-    while at <= text.len() {
-        let rest = &text[at..];
-        let end = first_len(rest, b'\n');
-        if !log.note(said_in(&rest[..end]))? {
-            return Ok(Err(Trouble::Line(line)));
-        }
-        at += end + 1;
-        line += 1;
-    }
-    Ok(Ok(log))
-}
-
-// Reads a log. One of more than 65,536 bytes is refused before any is read. It fails only for want of memory.
-pub(crate) fn read_log(heap: Global, text: &[u8]) -> Result<Result<Log, Trouble>, AllocError>
-    ensures { IfOk result (λ x. read_as x ≡ asked_in text.now) }
+// Reads a log to its end, or to its first bad line. One of more than 65,536 bytes is refused before any is read.
+pub(crate) fn read_log(heap: Global, text: &[u8]) -> Result<Log, Failure>
+    ensures { Reads (asked_in text.now) result }
 {
     if text.len() > MOST_LOG_BYTES {
-        return Ok(Err(Trouble::Calls(Refusal::TooShort)));
+        return Err(Trouble::Calls(Refusal::TooShort).into());
     }
-    read_lines(heap, text)
+    let mut log = Log {
+        layers: Layers::default(),
+        calls: Vec::new(heap),
+    };
+    for (i, line) in text.split(|b| *b == b'\n').enumerate() {
+        log.note(i + 1, line)?;
+    }
+    Ok(log)
 }

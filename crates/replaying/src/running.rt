@@ -4,14 +4,16 @@ ghost use Rattle.replaying.specs.Logs.{under};
 ghost use Rattle.std.specs.Prelude.{◌≡◌, length, None};
 
 use crate::line::Layer;
+use crate::log::Layers;
 use auction::call::{Answer, Call};
 use hall::replay::replay;
+use refusals::Refusal;
 use sources::floor::Floor;
 use sources::source::Source;
 use sources::times::Times;
 
 // Performs the calls on a new hall over the source, and writes the answers.
-fn perform<S: Source + Drop>(source: S, calls: &[Call], answers: &mut [Answer])
+fn perform<S: Source + Drop>(source: S, calls: &[Call], answers: &mut [Result<Answer, Refusal>])
     requires { length answers.old ≡ length calls.now }
     ensures { answers.new ≡ answers_from (S.Source.meaning source) None calls.now }
 {
@@ -23,7 +25,7 @@ fn perform_under<S: Source + Drop>(
     source: S,
     layer: Option<Layer>,
     calls: &[Call],
-    answers: &mut [Answer],
+    answers: &mut [Result<Answer, Refusal>],
 )
     requires { length answers.old ≡ length calls.now }
     ensures { answers.new ≡ answers_from (under layer (S.Source.meaning source)) None calls.now }
@@ -36,23 +38,24 @@ fn perform_under<S: Source + Drop>(
     }
 }
 
-// The same, with the source under two layers, if there are any; the first is nearest to it.
+// The same, with the source under two layers, if there are any.
+// By hand, once for each place: one source that held any layer would ask at every question which it is, and is no shorter.
 pub(crate) fn perform_layered<S: Source + Drop>(
     source: S,
-    nearest: Option<Layer>,
-    second: Option<Layer>,
+    layers: Layers,
     calls: &[Call],
-    answers: &mut [Answer],
+    answers: &mut [Result<Answer, Refusal>],
 )
     requires { length answers.old ≡ length calls.now }
-    ensures { answers.new ≡ answers_from (under second (under nearest (S.Source.meaning source))) None calls.now }
+    ensures { answers.new ≡ answers_from (under layers.second (under layers.nearest (S.Source.meaning source))) None calls.now }
 {
     let below = source;
+    let Layers { nearest, second } = layers;
     match nearest {
         None => perform_under(below, second, calls, answers),
-        Some(layer) => match layer {
-            Layer::Times(factor) => perform_under(Times { below, factor }, second, calls, answers),
-            Layer::Floor(floor) => perform_under(Floor { below, floor }, second, calls, answers),
-        },
+        Some(Layer::Times(factor)) => {
+            perform_under(Times { below, factor }, second, calls, answers)
+        }
+        Some(Layer::Floor(floor)) => perform_under(Floor { below, floor }, second, calls, answers),
     }
 }

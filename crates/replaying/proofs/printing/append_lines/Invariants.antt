@@ -1,7 +1,8 @@
-use Rattle.std.proofs.Common.{◌≡◌, ◌++◌, drop, string_bytes}
-use Rattle.replaying.specs.Shown.{answer_lines}
+use Rattle.std.proofs.Common.{◌≡◌, ◌++◌, string_bytes}
+use Rattle.std.specs.List.{flat_map}
+use Rattle.replaying.specs.Shown.{answer_line}
 use Rattle.replaying.proofs.printing.append_lines.Given as goal
 
--- the lines so far, and those that are left
-abbrev pub invariant-loop-i : goal.invariant-loop-i
-invariant-loop-i l = string_bytes l.text ++ answer_lines (drop l.i l.calls) (drop l.i l.answers) ≡ string_bytes l.initial.text ++ answer_lines l.calls l.answers
+-- the lines so far are in the text
+abbrev pub invariant-loop-call : goal.invariant-loop-call
+invariant-loop-call l = string_bytes l.text ≡ string_bytes l.initial.text ++ flat_map (λ p. answer_line p.0.now p.1.now) l.yielded

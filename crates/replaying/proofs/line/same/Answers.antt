@@ -1,6 +1,0 @@
-use Rattle.std.proofs.lemmas.Slice.Eq.{slice_eq-Decides, bytes_eq-Decides}
-use Rattle.std.proofs.lemmas.Bool.Decides.{same_from_decides, Decides-eqb}
-use Rattle.replaying.proofs.line.same.Goals as goal
-
-pub returns : goal.returns
-returns c = same_from_decides c.eq.result _ (slice_eq-Decides Decides-eqb c.args.word.now c.args.other.now c.eq.result c.eq.ensures) (bytes_eq-Decides c.args.word.now c.args.other.now)
