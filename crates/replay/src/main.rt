@@ -1,17 +1,18 @@
 #![tactic(auto)]
 
-use anyhow::anyhow;
-use replaying::log::MOST_LOG_BYTES;
-use replaying::{Outcome, replay_log};
+use anyhow::{Context, anyhow};
+use replaying::log::{MOST_LOG_BYTES, Trouble};
+use replaying::replay_log;
 use sheetfile::whole::MOST_BYTES;
 use std::io::Read;
 use std::{env, fs};
+use texts::Printed;
 
 // Replays the log on standard input over the sheet file that the first argument names.
-fn replayed(rt: &HostRuntime) -> anyhow::Result<Outcome> {
-    let Some(path) = env::args(rt)?.nth(1) else {
-        return Err(anyhow!("the name of a sheet file is wanted"));
-    };
+fn replayed(rt: &HostRuntime) -> anyhow::Result<Printed<Trouble>> {
+    let path = env::args(rt)?
+        .nth(1)
+        .context("the name of a sheet file is wanted")?;
     let mut sheet = Vec::new(rt.alloc());
     fs::open(rt, path.as_str())?
         .take(MOST_BYTES as u64 + 1)
@@ -26,9 +27,9 @@ fn replayed(rt: &HostRuntime) -> anyhow::Result<Outcome> {
 // Prints each call of the log with its answer. A line that is not understood or a refused file is printed too, and ends
 // with status 1.
 fn main(rt: HostRuntime) -> anyhow::Result<()> {
-    let outcome = replayed(&rt)?;
-    rt.print(outcome.text.as_str())?;
-    match outcome.trouble {
+    let printed = replayed(&rt)?;
+    rt.print(printed.text.as_str())?;
+    match printed.refused {
         Some(_) => Err(anyhow!("nothing was replayed")),
         None => Ok(()),
     }

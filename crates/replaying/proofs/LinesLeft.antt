@@ -1,5 +1,5 @@
 -- The lines of a log, one after another.
-use Rattle.std.proofs.Common.{◌≡◌, ℕ, ◌+◌, ◌<◌, ◌≤◌, Bool, false, eqb, List, [], ◌∷◌, length, get_or, drop, Some, None, Ok, Err, Option, Result, sym, refl, ap, ◌∙◌, arith}
+use Rattle.std.proofs.Common.{◌≡◌, ℕ, ◌+◌, ◌<◌, ◌≤◌, Bool, false, eqb, List, [], ◌∷◌, length, get_or, drop, Some, None, Ok, Err, sym, refl, ap, ◌∙◌, arith}
 use Rattle.std.proofs.lemmas.Iterator.{YieldsList}
 use Rattle.std.proofs.lemmas.Iterator.Consumers.{YieldsList-end, YieldsList-from_enumerate, YieldsList-turn}
 use Rattle.std.proofs.lemmas.Iterator.Splits.{YieldsList-from_slice_split}
@@ -15,7 +15,6 @@ use denote.Param.Members.{Mut}
 use denote.Ref.{Bor}
 use Rattle.replaying.specs.declared.log.Failure.{Failure}
 use Rattle.replaying.specs.declared.log.Failure.TheVariants.{Memory, Trouble as Troubled}
-use Rattle.replaying.specs.declared.log.Trouble.{Trouble}
 use Rattle.replaying.specs.declared.log.Trouble.TheVariants.{Line}
 use Rattle.replaying.specs.Logs.{Asked, Notes, Reads, asked_from, asked_in, noted_by, nothing_asked, or_line}
 use Rattle.replaying.specs.Parts.{lines_of}

@@ -1,8 +1,8 @@
-use Rattle.std.proofs.Common.{ltb, length, ◌+◌, Err, sym, ap, ◌∙◌, arith, rules, tests}
+use Rattle.std.proofs.Common.{ltb, length, ◌+◌, sym, ap, ◌∙◌, arith, rules, tests}
 use Rattle.std.proofs.lemmas.Bool.{cond-true, lt-ltb}
 use Rattle.std.proofs.lemmas.List.{length_push}
 use Rattle.std.proofs.lemmas.Result.{err_from_is_err_and}
-use Rattle.replaying.specs.Logs.{asked_from, asked_in, held_in, Reads}
+use Rattle.replaying.specs.Logs.{asked_from, asked_in, held_in}
 use Rattle.replaying.specs.Parts.{lines_of}
 use Rattle.replaying.proofs.LinesLeft.{asked_all, asked_on, asked_short, line_here, lines_gone, read_err}
 use Rattle.replaying.proofs.log.read_log.Goals as goal
