@@ -30,7 +30,3 @@ module _ (places : List ℕ) (i rest n : ℕ) (room : length places ≡ length (
     more = λ _. one_more b (encoded (rest / 128)) (rw is (encoded_large rest large));
     all = λ e. absurd (omega (arith, e, length-set places i b, used, ap length (encoded_large rest large), encoded_some (rest / 128)));
   }
-
--- nothing is written at first, and everything at last
-pub nothing_written : (places : List ℕ) (n : ℕ) → length places ≡ length (encoded n) → Written places 0 n n
-nothing_written places n room = record { more = λ _. refl; all = λ e. absurd (omega (arith, e, encoded_some n)) }

@@ -1,12 +1,7 @@
 use Rattle.std.proofs.Common.{◌∙◌}
 use Rattle.sources.specs.Travel.{no_place}
-use Rattle.sources.proofs.PositionRows.{no_carrier, no_job, the_entry}
+use Rattle.sources.proofs.PositionRows.{no_job, the_entry}
 use Rattle.sources.proofs.positions.PositionsSource.entry.Goals as goal
-
-pub returns-in_err-from : goal.returns-in_err-from
-returns-in_err-from c =
-    let s = c.args.self.now in
-    c.from_residual.ensures ∙ no_carrier s.carriers.now s.jobs.now s.reach c.args.carrier c.args.index c.in_err-from.ensures.lookup.3
 
 pub returns-in_err-to : goal.returns-in_err-to
 returns-in_err-to c =

@@ -1,6 +1,0 @@
-use Rattle.std.proofs.Common.{rules}
-use Rattle.sources.specs.Laws.LayersSound.{row_len-revalued}
-use Rattle.sources.proofs.floor.FloorSource.row_len.Goals as goal
-
-pub returns : goal.returns
-returns g c = search (rules, row_len-revalued)
