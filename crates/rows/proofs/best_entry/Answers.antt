@@ -1,13 +1,8 @@
-use Rattle.std.proofs.Common.{◌∙◌, ap, drop, arith, rules, tests}
+use Rattle.std.proofs.Common.{arith, rules, tests}
 use Rattle.sources.specs.Meaning.{row_of}
 use Rattle.sources.proofs.Reading.{row_rising}
-use Rattle.rows.proofs.Entries.{none_seen, takes_next, keeps_best, all_seen, most_is}
+use Rattle.rows.proofs.Entries.{takes_next, keeps_best, most_is}
 use Rattle.rows.proofs.best_entry.Goals as goal
-
-pub loop-job-init : goal.loop-job-init
-loop-job-init g c =
-    let row = row_of (g.S.Source.meaning c.args.source.now) c.args.carrier in
-    none_seen row _ (ap (λ s. drop s.places.start (row_of (g.S.Source.meaning s.source.now) s.carrier)) c.into_iter-job-iterator.ensures.into_iter_gives ∙ c.entries-job-items.ensures)
 
 pub loop-job-preserved-then-worth-map_or : goal.loop-job-preserved-then-worth-map_or
 loop-job-preserved-then-worth-map_or g c =
@@ -22,8 +17,3 @@ loop-job-preserved g c =
     let most = most_is c.loop-job.best c.map_or.result c.map_or.ensures (λ e k. search (rules, tests)) in
     keeps_best row c.loop-job.yielded _ _ c.in-Some.job c.in-Some.worth c.loop-job.best c.loop-job.invariant c.in-Some.ensures.steps
     (row_rising m (g.S.Source.sound c.args.source.now) c.args.carrier) (omega (arith, most, c.if-worth-map_or.false))
-
-pub returns : goal.returns
-returns g c =
-    let row = row_of (g.S.Source.meaning c.args.source.now) c.args.carrier in
-    all_seen row c.loop-job.yielded _ c.loop-job.best c.loop-job.invariant c.in-None.ensures.steps.0
