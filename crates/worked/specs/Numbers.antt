@@ -1,4 +1,4 @@
-use Rattle.std.specs.Prelude.{◌≡◌, ℕ, ◌^◌, List, [], ◌∷◌, Ok, Err}
+use Rattle.std.specs.Prelude.{◌≡◌, ◌^◌, [], ◌∷◌, Ok, Err}
 use Rattle.refusals.specs.declared.Refusal.TheVariants.{NumberPadded}
 use Rattle.refusals.specs.Faults.{fault_at}
 use Rattle.numbers.specs.Groups.{encoded, decoded}

@@ -1,5 +1,6 @@
 -- Worked runs: what is asked of a hall, call by call, and what it answers.
-use Rattle.std.specs.Prelude.{◌≡◌, ℕ, ◌+◌, ◌*◌, ◌≤◌, List, [], ◌∷◌, map, ℤ, pos, negsuc, Some, None}
+use Rattle.std.specs.Prelude.{◌≡◌, ℕ, ◌+◌, ◌*◌, ◌≤◌, List, [], ◌∷◌, map, ℤ, pos, negsuc, Some, None, Ok, Result}
+use Rattle.refusals.specs.declared.Refusal.{Refusal}
 use Rattle.sources.specs.Meaning.{Meaning}
 use Rattle.auction.specs.declared.call.Call.{Call}
 use Rattle.auction.specs.declared.call.Call.TheVariants.{Start, Summon, Settle, Run, PriceOf, HolderOf, StandingOf, TotalWorth}
@@ -12,15 +13,15 @@ use Rattle.auction.specs.declared.standing.Verdict.TheVariants.{Out as GoesOut}
 use Rattle.auction.specs.Calls.{answers_from}
 use Rattle.auction.specs.Laws.{worth}
 
--- Calls on a new hall, each with its answer.
+-- Calls on a new hall that are all accepted, each with its answer.
 abbrev pub Exchange : Type 0
 Exchange = List (Call × Answer)
 
 abbrev pub calls_in : Exchange → List Call
 calls_in x = map (λ e. e.0) x
 
-abbrev pub answers_in : Exchange → List Answer
-answers_in x = map (λ e. e.1) x
+abbrev pub answers_in : Exchange → List (Result Answer Refusal)
+answers_in x = map (λ e. Ok e.1) x
 
 -- The rules answer so, where the source has that meaning.
 abbrev pub Plays : Meaning → Exchange → Type 0
@@ -28,7 +29,7 @@ Plays m x = answers_from m None (calls_in x) ≡ answers_in x
 
 abbrev pub ran_for : ℕ → ℕ → ℕ → ℕ → ℕ → Ending → Answer
 ran_for steps summonses awards stales outs ending =
-    Ran (record { steps = steps; summonses = summonses; awards = awards; stales = stales; outs = outs; ending = ending })
+    Ran (record { steps = steps; counts = record { summonses = summonses; awards = awards; stales = stales; outs = outs }; ending = ending })
 
 abbrev pub bidding : ℕ → ℤ → ℕ → ℕ → ℕ → Answer
 bidding looked net job worth runner-up = Stands (Bidding (record { looked = looked; best = Some (record { net = net; job = job; worth = worth }); runner_up = runner-up }))

@@ -1,35 +1,35 @@
 // Worked runs.
-ghost use Rattle.std.specs.Prelude.{◌≡◌, ◌≤◌, length, None, Ok};
+ghost use Rattle.std.specs.Prelude.{◌≡◌, ◌≤◌, None, Ok};
 ghost use Rattle.sources.specs.Sheets.{fill_verdict, sheet_of};
 ghost use Rattle.auction.specs.Calls.{answers_from};
 ghost use Rattle.worked.specs.Runs.{Plays, WideRival, answers_in, calls_in, empty_row, net_above, net_below, net_zero, no_entries, one_by_one, one_job, smaller_job, table, three_in_flight, two_alike, wide, wide_step};
 
 use auction::call::{Answer, Call};
 use hall::replay::replay;
+use refusals::Refusal;
 use sources::form::{Entry, Heading};
 use sources::sheet::Sheet;
 
-// Performs the calls on a new hall over the sheet of these tables, and writes the answers.
-fn play<'a>(
+// Performs the calls on a new hall over the sheet of these tables, and gives the answers.
+fn play<const N: usize>(
     heading: Heading,
-    starts: &'a [usize],
-    entries: &'a [Entry],
-    calls: &[Call],
-    answers: &mut [Answer],
-)
-    requires sheet { fill_verdict heading starts.now entries.now ≡ Ok tt }
-    requires sized { length answers.old ≡ length calls.now }
-    ensures { answers.new ≡ answers_from (sheet_of heading starts.now entries.now) None calls.now }
+    starts: &[usize],
+    entries: &[Entry],
+    calls: [Call; N],
+) -> [Result<Answer, Refusal>; N]
+    requires { fill_verdict heading starts.now entries.now ≡ Ok tt }
+    ensures { result ≡ answers_from (sheet_of heading starts.now entries.now) None calls.entry }
 {
     let mut sheet = Sheet::new();
     let _ = sheet.fill(heading, starts, entries);
-    let _ = replay(sheet, calls, answers);
+    let mut answers = [Ok(Answer::Accepted); N];
+    let _ = replay(sheet, &calls, &mut answers);
+    answers
 }
 
 // Rows 5 10 1, 4 11 3 and 5 14 8.
-fn play_table(calls: &[Call], answers: &mut [Answer])
-    requires { length answers.old ≡ length calls.now }
-    ensures { answers.new ≡ answers_from table None calls.now }
+fn play_table<const N: usize>(calls: [Call; N]) -> [Result<Answer, Refusal>; N]
+    ensures { result ≡ answers_from table None calls.entry }
 {
     let heading = Heading {
         carriers: 3,
@@ -47,11 +47,11 @@ fn play_table(calls: &[Call], answers: &mut [Answer])
         Entry { job: 1, worth: 14 },
         Entry { job: 2, worth: 8 },
     ];
-    play(heading, &[0, 3, 6, 9], &entries, calls, answers);
+    play(heading, &[0, 3, 6, 9], &entries, calls)
 }
 
 // Depth 1: one carrier bids at a time.
-pub fn one_by_one() -> [Answer; 19]
+pub fn one_by_one() -> [Result<Answer, Refusal>; 19]
     ensures value { result ≡ answers_in one_by_one }
     ensures worked { Plays table one_by_one }
 {
@@ -89,13 +89,11 @@ pub fn one_by_one() -> [Answer; 19]
         Call::HolderOf(2),
         Call::TotalWorth,
     ];
-    let mut answers = [Answer::Accepted; 19];
-    play_table(&calls, &mut answers);
-    answers
+    play_table(calls)
 }
 
 // Depth 3: three carriers bid, and one bid turns stale.
-pub fn three_in_flight() -> [Answer; 16]
+pub fn three_in_flight() -> [Result<Answer, Refusal>; 16]
     ensures value { result ≡ answers_in three_in_flight }
     ensures worked { Plays table three_in_flight }
 {
@@ -127,13 +125,11 @@ pub fn three_in_flight() -> [Answer; 16]
         Call::PriceOf(2),
         Call::TotalWorth,
     ];
-    let mut answers = [Answer::Accepted; 16];
-    play_table(&calls, &mut answers);
-    answers
+    play_table(calls)
 }
 
 // One job, worth 5 to carrier 0 and so much to carrier 1.
-fn one_job(worth: u64) -> [Answer; 10]
+fn one_job(worth: u64) -> [Result<Answer, Refusal>; 10]
     requires some { 1 ≤ worth }
     requires low { worth ≤ 9 }
     ensures { result ≡ answers_from (one_job worth) None (calls_in net_below) }
@@ -165,13 +161,11 @@ fn one_job(worth: u64) -> [Answer; 10]
         Call::HolderOf(0),
         Call::PriceOf(0),
     ];
-    let mut answers = [Answer::Accepted; 10];
-    play(heading, &[0, 1, 2], &entries, &calls, &mut answers);
-    answers
+    play(heading, &[0, 1, 2], &entries, calls)
 }
 
 // Worth 3 at a price of 6.
-pub fn net_below() -> [Answer; 10]
+pub fn net_below() -> [Result<Answer, Refusal>; 10]
     ensures value { result ≡ answers_in net_below }
     ensures worked { Plays (one_job 3) net_below }
 {
@@ -179,7 +173,7 @@ pub fn net_below() -> [Answer; 10]
 }
 
 // Worth 6 at a price of 6.
-pub fn net_zero() -> [Answer; 10]
+pub fn net_zero() -> [Result<Answer, Refusal>; 10]
     ensures value { result ≡ answers_in net_zero }
     ensures worked { Plays (one_job 6) net_zero }
 {
@@ -187,7 +181,7 @@ pub fn net_zero() -> [Answer; 10]
 }
 
 // Worth 7 at a price of 6.
-pub fn net_above() -> [Answer; 10]
+pub fn net_above() -> [Result<Answer, Refusal>; 10]
     ensures value { result ≡ answers_in net_above }
     ensures worked { Plays (one_job 7) net_above }
 {
@@ -195,7 +189,7 @@ pub fn net_above() -> [Answer; 10]
 }
 
 // Two jobs of worth 9 for one carrier.
-pub fn smaller_job() -> [Answer; 5]
+pub fn smaller_job() -> [Result<Answer, Refusal>; 5]
     ensures value { result ≡ answers_in smaller_job }
     ensures worked { Plays two_alike smaller_job }
 {
@@ -215,13 +209,11 @@ pub fn smaller_job() -> [Answer; 5]
         Call::PriceOf(0),
         Call::HolderOf(1),
     ];
-    let mut answers = [Answer::Accepted; 5];
-    play(heading, &[0, 2], &entries, &calls, &mut answers);
-    answers
+    play(heading, &[0, 2], &entries, calls)
 }
 
 // Rows 10 9 and 10 1, with a step of 10.
-pub fn wide_step() -> [Answer; 7]
+pub fn wide_step() -> [Result<Answer, Refusal>; 7]
     ensures value { result ≡ answers_in wide_step }
     ensures worked { Plays wide wide_step }
     ensures rival { WideRival }
@@ -249,13 +241,11 @@ pub fn wide_step() -> [Answer; 7]
         Call::HolderOf(1),
         Call::TotalWorth,
     ];
-    let mut answers = [Answer::Accepted; 7];
-    play(heading, &[0, 2, 4], &entries, &calls, &mut answers);
-    answers
+    play(heading, &[0, 2, 4], &entries, calls)
 }
 
 // A carrier with no entries.
-pub fn empty_row() -> [Answer; 4]
+pub fn empty_row() -> [Result<Answer, Refusal>; 4]
     ensures value { result ≡ answers_in empty_row }
     ensures worked { Plays no_entries empty_row }
 {
@@ -271,7 +261,5 @@ pub fn empty_row() -> [Answer; 4]
         Call::Settle(0),
         Call::StandingOf(0),
     ];
-    let mut answers = [Answer::Accepted; 4];
-    play(heading, &[0, 0], &entries, &calls, &mut answers);
-    answers
+    play(heading, &[0, 0], &entries, calls)
 }
