@@ -1,5 +1,5 @@
 -- A call on a carrier: what is answered, and the tally after it.
-use Rattle.std.proofs.Common.{◌≡◌, ℕ, ◌<◌, Bool, true, false, cond, ltb, get_or, take, set, is_ok, Some, None, Ok, Err, Option, Result, sym, refl, ap, ◌∙◌, ⊎_elim, arith}
+use Rattle.std.proofs.Common.{◌≡◌, ℕ, ◌<◌, Bool, true, false, cond, ltb, get_or, take, set, is_ok, Some, Ok, Err, Option, Result, sym, refl, ap, ◌∙◌, ⊎_elim, arith}
 use Rattle.std.proofs.lemmas.List.{set-get_or, length-set}
 use Rattle.std.proofs.lemmas.Bool.{ltb-true, lt-ltb, cond-true, cond-false, cases_Bool}
 use Rattle.sources.specs.Meaning.{Meaning, Sound, row_of}
@@ -11,7 +11,7 @@ use Rattle.auction.specs.declared.standing.Counts.{Counts}
 use Rattle.auction.specs.declared.standing.Act.{Act}
 use Rattle.auction.specs.declared.standing.Standing.{Standing}
 use Rattle.auction.specs.declared.standing.Standing.TheVariants.{Waiting, Bidding}
-use Rattle.auction.specs.Tally.{Tally, standing_at}
+use Rattle.auction.specs.Tally.{Tally}
 use Rattle.auction.specs.Rules.{bid_after, bid_at, bid_by, once, taken, stands, bids, called}
 use Rattle.auction.proofs.Keeping.{call_consistent}
 use Rattle.hall.specs.declared.books.Books.{Books}
@@ -34,38 +34,13 @@ below_parts n r m i b e =
 pub admitted_parts : (m : Meaning) (i : ℕ) (b : Books) → Ok tt ≡ admitted m i b → (is_open m b ≡ true) × (i < b.noted.carriers)
 admitted_parts m i b e = below_parts b.noted.carriers NoSuchCarrier m i b e
 
-refused_there : {A : Type 0} (r : Refusal) (x : Result A Refusal) (l : Bool) (e : Refusal) → ◌≡◌ {A = Result (Unit {0}) Refusal} (Err e) (cond l (Ok tt) (Err r)) →
-    Err e ≡ cond l x (Err r)
-refused_there r x true e h = let z : ◌≡◌ {A = ℕ} 0 1 = cc in absurd (omega arith)
-refused_there r x false e h = cc
-
--- A rule that refuses a hall that was never started, and then a number that is not below n. What is not admitted is refused by it too.
+-- A rule that refuses a hall that was never started, and then a number that is not below n. What is admitted is told by it.
 module _ {A : Type 0} (rule : Option Tally → Result A Refusal) (found : Tally → Result A Refusal) (n : ℕ) (r : Refusal) (m : Meaning) (i : ℕ) (b : Books)
-    (never : rule None ≡ Err NeverStarted) (there : (t : Tally) → rule (Some t) ≡ cond (ltb i n) (found t) (Err r)) where
-  pub refused_by : (k : ℕ) → (is_open m b ≡ true → k ≡ n) → (e : Refusal) → Err e ≡ admitted_below k r m i b → Err e ≡ rule (tally_of m b)
-  refused_by k same e h = ⊎_elim
-      (λ o. refused_there r _ (ltb i n) e (h ∙ cond-true (is_open m b) _ _ o ∙ ap (λ z. cond (ltb i z) (Ok tt) (Err r)) (same o))
-      ∙ sym (ap rule (open_tally m b o) ∙ there (tally_in b)))
-      (λ o.
-      let q : ◌≡◌ {A = Result (Unit {0}) Refusal} (Err e) (Err NeverStarted) = h ∙ cond-false (is_open m b) _ _ o in
-      let z : e ≡ NeverStarted = cc in
-      ap Err z ∙ sym (ap rule (shut_tally m b o) ∙ never))
-      (cases_Bool (is_open m b))
-
+    (there : (t : Tally) → rule (Some t) ≡ cond (ltb i n) (found t) (Err r)) where
   pub found_by : (k : ℕ) → (is_open m b ≡ true → k ≡ n) → Ok tt ≡ admitted_below k r m i b → rule (tally_of m b) ≡ found (tally_in b)
   found_by k same h =
       let p = below_parts k r m i b h in
       ap rule (open_tally m b p.0) ∙ there (tally_in b) ∙ cond-true (ltb i n) _ _ (lt-ltb i n (omega (arith, p.1, same p.0)))
-
-pub refused_bid : (m : Meaning) (i : ℕ) (act : Act) (b : Books) (e : Refusal) → Err e ≡ admitted m i b → Err e ≡ bid_by m i act (tally_of m b)
-unfolding bid_at
-refused_bid m i act b e h =
-    refused_by (bid_by m i act) (λ t. bid_after t.lanes t.prices (row_of m i) (standing_at t i) act) m.carriers NoSuchCarrier m i b refl (λ t. refl) b.noted.carriers (λ o. (open_parts m b o).1) e h
-
--- A refused call leaves the tally as it is.
-pub refused_tally : (m : Meaning) (i : ℕ) (act : Act) (f : Bid → Tally → Tally) (e : Refusal) (o : Option Tally) → Err e ≡ bid_by m i act o → o ≡ once (λ t. taken (bid_at m i act t) f t) o
-refused_tally m i act f e None h = refl
-refused_tally m i act f e (Some t) h = ap (λ r. Some (taken r f t)) h
 
 -- An accepted call finds books that are open, and a carrier that is there.
 module _ (m : Meaning) (i : ℕ) (act : Act) (b : Books) (x : Bid) (answer : Ok x ≡ bid_by m i act (tally_of m b)) where

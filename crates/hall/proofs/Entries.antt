@@ -1,5 +1,5 @@
 -- The fold that a look makes of a row, over the iterator of the row's entries.
-use Rattle.std.proofs.Common.{◌≡◌, ℕ, zero, suc, ◌<◌, List, [], ◌∷◌, length, get_or, take, drop, Some, None, Option, sym, refl, ap, ◌∙◌, arith}
+use Rattle.std.proofs.Common.{◌≡◌, ℕ, zero, suc, ◌<◌, List, [], ◌∷◌, length, get_or, take, drop, Some, None, Option, sym, ap, ◌∙◌, arith}
 use Rattle.std.specs.Iterator.{YieldsFirst}
 use Rattle.std.specs.Iterator.Adapters.{take_source, take_count, take_steps}
 use Rattle.std.specs.declared.iter.Take.{Take}
@@ -32,14 +32,6 @@ module _ {S E : Type 0} (rest : S → List E) where
       let next : rest (take_source s) ≡ e ∷ rest (take_source t) = h.0 ∙ ap (λ z. z ∷ rest (take_source t)) same in
       let count : take_count s ≡ suc (take_count t) = omega (arith, h.1) in
       (next, ap (take (take_count s)) next ∙ ap (λ n. take n (e ∷ rest (take_source t))) count)
-
-  pub take_done : (s t : Take S) (r : Option E) → r ≡ None → take_steps (YieldsFirst rest) s r t → left_in s ≡ []
-  take_done s t (Some x) q h = let z : ◌≡◌ {A = ℕ} 0 1 = cc in absurd (omega arith)
-  take_done s t None q h = go (take_count s) (rest (take_source s)) (λ l. (h l).0)
-    where
-      go : (n : ℕ) (xs : List E) → (0 < n → xs ≡ []) → take n xs ≡ []
-      go zero xs h = refl
-      go (suc n) xs h = ap (take (suc n)) (h (omega arith))
 
 -- The price in a table of jobs.
 pub price_in : (lots : List Lot) (job : ℕ) (d : Lot) → job < length lots → (get_or lots job d).price ≡ get_or (prices_of lots) job 0

@@ -17,9 +17,9 @@ use Rattle.hall.specs.declared.books.Lot.{Lot}
 use Rattle.hall.specs.declared.books.Books.{Books}
 use Rattle.hall.specs.InBooks.{is_open, tally_in, tally_of}
 use Rattle.hall.proofs.Keeps.{kept_out}
-use Rattle.hall.proofs.Tables.{open_tally, shut_tally, open_parts, consistent_in, few_places, standing_in}
-use Rattle.hall.proofs.Calling.{below_parts, admitted_parts, refused_by, found_by}
-use Rattle.hall.specs.Steps.{admitted_below, admitted, lot_answer}
+use Rattle.hall.proofs.Tables.{open_tally, shut_tally, open_parts, consistent_in, standing_in}
+use Rattle.hall.proofs.Calling.{admitted_parts, found_by}
+use Rattle.hall.specs.Steps.{admitted, lot_answer}
 
 module _ (m : Meaning) (b : Books) (j : ℕ) where
   -- A question about a job tells a field of what is kept of it.
@@ -48,20 +48,10 @@ module _ (m : Meaning) (b : Books) (j : ℕ) where
   holder_told r e = lot_told (λ l. l.holder) (holder_answer j m) (λ t. holder_at t j) refl (λ t. refl)
       (λ l. get_or-take b.noted.jobs (holders_of b.lots) j None l ∙ get_or-map (λ l. l.holder) b.lots j unsold None (in_lots l)) r e
 
-  pub standing_refused : (e : Refusal) → Err e ≡ admitted m j b → Err e ≡ standing_answer j m (tally_of m b)
-  standing_refused e h =
-      refused_by (standing_answer j m) (λ t. Ok (standing_at t j)) m.carriers NoSuchCarrier m j b refl (λ t. refl) b.noted.carriers (λ o. (open_parts m b o).1) e h
-
   pub standing_told : Ok tt ≡ admitted m j b → Ok (get_or b.standings j Waiting) ≡ standing_answer j m (tally_of m b)
   standing_told h =
-      sym (found_by (standing_answer j m) (λ t. Ok (standing_at t j)) m.carriers NoSuchCarrier m j b refl (λ t. refl) b.noted.carriers (λ o. (open_parts m b o).1) h
+      sym (found_by (standing_answer j m) (λ t. Ok (standing_at t j)) m.carriers NoSuchCarrier m j b (λ t. refl) b.noted.carriers (λ o. (open_parts m b o).1) h
       ∙ ap Ok (standing_in b j (admitted_parts m j b h).1))
-
-pub known_job : (m : Meaning) (b : Books) (j : ℕ) → Ok tt ≡ admitted_below b.noted.jobs NoSuchJob m j b → j < 256
-known_job m b j h = omega (arith, (below_parts b.noted.jobs NoSuchJob m j b h).1, (consistent_in b).limits.few_jobs)
-
-pub known_carrier : (m : Meaning) (b : Books) (i : ℕ) → Ok tt ≡ admitted m i b → i < 128
-known_carrier m b i h = few_places b i (admitted_parts m i b h).1
 
 -- ---- the total worth
 

@@ -1,12 +1,11 @@
 -- What the calls of a run leave, where the books are open to the source.
-use Rattle.std.proofs.Common.{◌≡◌, ℕ, zero, suc, ◌+◌, ◌-◌, ◌<◌, ◌≤◌, Bool, true, false, cond, ◌&&◌, eqb, ltb, List, [], ◌∷◌, ◌++◌, length, get_or, take, Some, None, Ok, Err, Option, Result, sym, refl, ap, ◌∙◌, subst, ⊎_elim, arith}
+use Rattle.std.proofs.Common.{◌≡◌, ℕ, zero, suc, ◌+◌, ◌-◌, ◌<◌, ◌≤◌, Bool, true, false, cond, ◌&&◌, eqb, ltb, List, [], ◌∷◌, ◌++◌, length, get_or, take, Some, None, Ok, Option, Result, sym, refl, ap, ◌∙◌, subst, ⊎_elim, arith}
 use Rattle.std.specs.Option.{option_to_list}
 use Rattle.std.proofs.lemmas.List.{take_more, length-take-le}
-use Rattle.std.proofs.lemmas.Bool.{cases_Bool, and_parts, and_left, both_ways, eqb-true, eqb-false, ne_eqb, lt-ltb, cond-true, cond-false}
+use Rattle.std.proofs.lemmas.Bool.{cases_Bool, and_parts, and_left, both_ways, eqb-true, ne_eqb, lt-ltb, cond-true}
 use Rattle.sources.specs.Meaning.{Meaning, Sound, row_of}
 use Rattle.sources.specs.Tables.{heading_of}
 use Rattle.refusals.specs.declared.Refusal.{Refusal}
-use Rattle.refusals.specs.declared.Refusal.TheVariants.{NeverStarted, DepthOutside}
 use Rattle.auction.specs.declared.standing.Act.TheVariants.{Summon, Look}
 use Rattle.auction.specs.declared.standing.Counts.{Counts}
 use Rattle.auction.specs.declared.standing.Ending.{Ending}
@@ -176,9 +175,6 @@ idle_state m depth n steps b q e =
     idle_steps m depth n (held q.line) (held q.flight) (tally_in b) steps
     (let z = eqb-true (length (held q.line) + length (held q.flight)) 0 (sym (both_none (length (held q.line)) (length (held q.flight))) ∙ e) in omega (arith, z))
 
-pub still_busy : (a b : ℕ) → (eqb a 0 && eqb b 0) ≡ false → 0 < a + b
-still_busy a b e = let z : a + b ≡ 0 → ⊥ = eqb-false (a + b) 0 (sym (both_none a b) ∙ e) in omega arith
-
 -- ---- the state that a run begins with
 
 pub same_start : (m : Meaning) (b : Books) (q : Queues) → held q.line ≡ gathered if_waiting 0 (tally_in b).standings → held q.flight ≡ gathered (if_bidding m b.lanes) 0 (tally_in b).standings →
@@ -225,19 +221,3 @@ pub run_grown : (m : Meaning) (depth budget : ℕ) (old new : Books) (q q' : Que
     state_of new q' steps ≡ many_steps m depth budget (state_of old q 0) → Grown old.counts new.counts
 run_grown m depth budget old new q q' steps made =
     subst (λ z. Grown old.counts z.tally.counts) (sym made) (steps_grow m depth budget (state_of old q 0))
-
-module _ (m : Meaning) (depth budget : ℕ) (b : Books) where
-  pub run_unopened : is_open m b ≡ false → Ruled (run_answer depth budget) (run_tally depth budget) m b b (Err NeverStarted)
-  run_unopened o = record {
-    answered = sym (ap (run_answer depth budget m) (shut_tally m b o));
-    tallied = shut_tally m b o ∙ sym (ap (run_tally depth budget m) (shut_tally m b o));
-    refused = λ _. refl;
-  }
-
-  pub run_undeep : is_open m b ≡ true → between 1 128 depth ≡ false → Ruled (run_answer depth budget) (run_tally depth budget) m b b (Err DepthOutside)
-  unfolding ran
-  run_undeep o d = record {
-    answered = sym (ap (run_answer depth budget m) (open_tally m b o) ∙ cond-false {A = Result Report Refusal} (between 1 128 depth) _ _ d);
-    tallied = open_tally m b o ∙ sym (ap (run_tally depth budget m) (open_tally m b o) ∙ ap Some (cond-false (between 1 128 depth) _ _ d));
-    refused = λ _. refl;
-  }

@@ -3,7 +3,7 @@ use Rattle.std.proofs.Common.{◌≡◌, ℕ, zero, suc, ◌^◌, ◌<◌, ◌�
 use mathlib.Core.HLevel.{is_prop→PathP}
 use mathlib.Core.Logic.{∥∥₁_prop}
 use Rattle.std.proofs.lemmas.List.{take-replicate, get_or-take, get_or_default}
-use Rattle.std.proofs.lemmas.Bool.{cases_Bool, and_left, and_from, and_parts, eq-eqb, eqb-true, cond-true, cond-false}
+use Rattle.std.proofs.lemmas.Bool.{cases_Bool, and_from, and_parts, eq-eqb, eqb-true, cond-true, cond-false}
 use Rattle.sources.specs.Meaning.{Meaning}
 use Rattle.auction.specs.declared.standing.Counts.{Counts}
 use Rattle.auction.specs.declared.standing.Standing.{Standing}
@@ -56,10 +56,6 @@ open_tally m b e = cond-true (is_open m b) (Some (tally_in b)) None e
 pub shut_tally : (m : Meaning) (b : Books) → is_open m b ≡ false → tally_of m b ≡ None
 unfolding tally_of
 shut_tally m b e = cond-false (is_open m b) (Some (tally_in b)) None e
-
--- Books that were never started.
-pub new_tally : (m : Meaning) (b : Books) → b.started ≡ false → tally_of m b ≡ None
-new_tally m b e = shut_tally m b (and_left b.started (eqb b.noted.carriers m.carriers && (eqb b.noted.jobs m.jobs && eqb b.noted.ceiling m.ceiling)) e)
 
 -- Books whose tally is there are open, and hold it.
 pub has_tally : (m : Meaning) (b : Books) (t : Tally) → tally_of m b ≡ Some t → (is_open m b ≡ true) × (tally_in b ≡ t)

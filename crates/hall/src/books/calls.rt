@@ -158,6 +158,7 @@ impl Books {
     }
 
     // Never started.
+    #[tactic(auto, unfolding(crate::specs::InBooks::tally_of))]
     pub(crate) fn new() -> Self
         ensures { (m : Meaning) → tally_of m result ≡ None }
     {
@@ -215,6 +216,7 @@ impl Books {
     }
 
     // Calls on a carrier, whose standing is lent to be changed. A bid that settles is still open after.
+    #[tactic(auto, unfolding(crate::specs::InBooks::tally_of, auction::specs::Rules::bid_at))]
     fn call_on<S: Source>(&mut self, source: &S, carrier: usize, act: Act) -> Result<Bid, Refusal>
         ensures answered { result ≡ bid_by (S.meaning source.now) carrier act (tally_of (S.meaning source.now) self.old) }
         ensures tallied { tally_of (S.meaning source.now) self.new ≡ once (called (S.meaning source.now) carrier act) (tally_of (S.meaning source.now) self.old) }

@@ -49,6 +49,7 @@ impl Books {
         self.lot(source, job).map(|lot| lot.holder)
     }
 
+    #[tactic(auto, unfolding(crate::specs::InBooks::tally_of))]
     pub(crate) fn standing<S: Source>(
         &self,
         source: &S,
@@ -60,6 +61,7 @@ impl Books {
         Ok(self.standings[carrier])
     }
 
+    #[tactic(auto, unfolding(crate::specs::InBooks::tally_of))]
     pub(crate) fn worth<S: Source>(&self, source: &S) -> Result<u64, Refusal>
         ensures { result ≡ worth_answer (S.meaning source.now) (tally_of (S.meaning source.now) self.now) }
     {
@@ -69,6 +71,7 @@ impl Books {
         Ok(total_worth(&self.standings[..self.noted.carriers]))
     }
 
+    #[tactic(auto, unfolding(crate::specs::InBooks::tally_of))]
     pub(crate) fn counts<S: Source>(&self, source: &S) -> Result<Counts, Refusal>
         ensures { result ≡ counts_answer (S.meaning source.now) (tally_of (S.meaning source.now) self.now) }
     {

@@ -139,6 +139,7 @@ impl Books {
         budget
     }
 
+    #[tactic(auto, unfolding(crate::specs::InBooks::tally_of, auction::specs::Runs::ran))]
     pub(crate) fn run<S: Source>(
         &mut self,
         source: &S,

@@ -1,5 +1,4 @@
-use Rattle.std.proofs.Common.{◌<◌, true, length, sym, refl, ap, ◌∙◌, subst, arith}
-use Rattle.std.proofs.lemmas.Bool.{both_ways, cond-true, le-leb}
+use Rattle.std.proofs.Common.{◌<◌, length, refl, ap, ◌∙◌, subst, arith}
 use Rattle.auction.specs.Calls.{tally_from}
 use Rattle.hall.specs.InBooks.{tally_of}
 use Rattle.hall.specs.Replayed.{Replayed}
@@ -29,16 +28,10 @@ loop-i-preserved g c =
       beyond_more c.loop-i.answers _ c.args.answers.now i c.perform.result l inv.3 refl,
     )
 
-pub returns : goal.returns
-returns g c =
-    let e = c.new-hall.ensures.kept in
+pub returns-clause-replayed : goal.returns-clause-replayed
+returns-clause-replayed g c =
     let inv = c.loop-i.invariant in
     let s = c.new-hall.result.source in
-    record {
-      kept = inv.0 ∙ e;
-      fits = sym (cond-true _ _ _ (le-leb (length c.args.calls.now) (length c.args.answers.now) c.if-calls-answers.false));
-      replayed = λ _. subst (λ z. Replayed (g.S.Source.meaning z) c.args.calls.now c.args.answers.now c.loop-i.answers c.loop-i.hall.books) e
-          (replay_done (g.S.Source.meaning s) (g.S.Source.sound s) c.args.calls.now c.loop-i.i c.args.answers.now c.loop-i.answers c.loop-i.hall.books
-          c.loop-i-test.false c.loop-i.auto.i-end inv.1 inv.2 inv.3);
-      refused = λ h. absurd (both_ways true h refl);
-    }
+    λ _. subst (λ z. Replayed (g.S.Source.meaning z) c.args.calls.now c.args.answers.now c.loop-i.answers c.loop-i.hall.books) c.new-hall.ensures.kept
+    (replay_done (g.S.Source.meaning s) (g.S.Source.sound s) c.args.calls.now c.loop-i.i c.args.answers.now c.loop-i.answers c.loop-i.hall.books
+    c.loop-i-test.false c.loop-i.auto.i-end inv.1 inv.2 inv.3)

@@ -1,32 +1,8 @@
-use Rattle.std.proofs.Common.{◌<◌, Err, refl, ap, ◌∙◌, arith, rules}
-use Rattle.std.proofs.lemmas.Result.{err_from_is_err_and}
-use Rattle.auction.specs.Rules.{bids}
+use Rattle.std.proofs.Common.{refl, arith}
 use Rattle.auction.proofs.Keeping.{low_counts}
-use Rattle.hall.proofs.Tables.{open_parts, same_books, consistent_in, few_places, low_prices_in}
-use Rattle.hall.proofs.Calling.{admitted_parts, refused_bid, refused_tally, call_answered, call_keeps, call_tallied, standing_kept, counts_kept}
+use Rattle.hall.proofs.Tables.{open_parts, same_books, consistent_in, low_prices_in}
+use Rattle.hall.proofs.Calling.{admitted_parts, call_answered, call_keeps, call_tallied, standing_kept, counts_kept}
 use Rattle.hall.proofs.books.Books.call_on.Goals as goal
-
-pub returns-in_err-admit : goal.returns-in_err-admit
-returns-in_err-admit g c =
-    let m = g.S.Source.meaning c.args.source.now in
-    let p = err_from_is_err_and c.from_residual.result c.from_residual.ensures.1 in
-    let e = refused_bid m c.args.carrier c.args.act c.args.self.now _ c.in_err-admit.ensures in
-    record {
-      answered = p.1 ∙ ap Err p.2 ∙ e;
-      tallied = refused_tally m c.args.carrier c.args.act (bids c.args.act c.args.carrier) _ _ e;
-      refused = λ _. refl;
-    }
-
-pub offset_bounds-self-carrier : goal.offset_bounds-self-carrier
-offset_bounds-self-carrier g c =
-    let a = admitted_parts (g.S.Source.meaning c.args.source.now) c.args.carrier c.args.self.now c.in_ok-admit.ensures in
-    let l : c.args.carrier < 128 = few_places c.args.self.now c.args.carrier a.1 in
-    search rules
-
-pub bounds-self-carrier : goal.bounds-self-carrier
-bounds-self-carrier g c =
-    let a = admitted_parts (g.S.Source.meaning c.args.source.now) c.args.carrier c.args.self.now c.in_ok-admit.ensures in
-    few_places c.args.self.now c.args.carrier a.1
 
 pub respond-requires : goal.respond-requires
 respond-requires g c =

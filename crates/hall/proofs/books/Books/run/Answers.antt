@@ -1,31 +1,12 @@
-use Rattle.std.proofs.Common.{◌≡◌, ◌≤◌, true, false, sym, ap, ◌∙◌, arith}
+use Rattle.std.proofs.Common.{◌≡◌, ◌≤◌, true, sym, ap, ◌∙◌, arith}
 use Rattle.std.proofs.lemmas.Grind.{common_steps}
 use Rattle.auction.specs.Rules.{between}
 use Rattle.auction.specs.Runs.{many_steps}
-use Rattle.hall.proofs.RunSteps.{start_ordered, run_ruled, run_reported, run_unopened, run_undeep}
+use Rattle.hall.proofs.RunSteps.{start_ordered, run_ruled, run_reported}
 use Rattle.hall.proofs.books.Books.run.Goals as goal
 
-pub returns-then-not-is_open : goal.returns-then-not-is_open
-returns-then-not-is_open g c = record {
-  ruled = run_unopened (g.S.Source.meaning c.args.source.now) c.args.depth c.args.budget c.args.self.now (sym c.if-not-is_open.ensures);
-  reported = tt;
-}
-
-pub returns-then-not-contains : goal.returns-then-not-contains
-returns-then-not-contains g c =
-    let d : between 1 128 c.args.depth ≡ false = grind (arith, common_steps) in
-    record {
-      ruled = run_undeep (g.S.Source.meaning c.args.source.now) c.args.depth c.args.budget c.args.self.now (sym c.if-not-is_open.ensures) d;
-      reported = tt;
-    }
-
-pub make_steps-steps-requires : goal.make_steps-steps-requires
-make_steps-steps-requires g c =
-    record {
-      «open» = sym c.if-not-is_open.ensures;
-      ordered = start_ordered (g.S.Source.meaning c.args.source.now) c.args.self.now c.begin.new.queues c.begin.ensures;
-      deep = grind (arith, common_steps);
-    }
+pub make_steps-steps-requires-clause-ordered : goal.make_steps-steps-requires-clause-ordered
+make_steps-steps-requires-clause-ordered g c = start_ordered (g.S.Source.meaning c.args.source.now) c.args.self.now c.begin.new.queues c.begin.ensures
 
 pub returns : goal.returns
 returns g c =

@@ -1,14 +1,11 @@
 use Rattle.std.proofs.Common.{rules}
-use Rattle.hall.proofs.Tables.{consistent_in}
 use Rattle.hall.proofs.Settling.{settles_known, settles_bidding, settles_sound, settles_ruled, settled_answer, settled_tally}
 use Rattle.hall.proofs.books.Books.settle.Goals as goal
 
-pub judge-verdict-requires : goal.judge-verdict-requires
-judge-verdict-requires g c = record {
-  low_step = (consistent_in c.call_on.new.self).limits.low_step;
-  sound = settles_sound (g.S.Source.meaning c.args.source.now) c.args.carrier c.in_ok-bid.bid c.args.self.now c.call_on.new.self
-      c.in_ok-bid.ensures.answered c.in_ok-bid.ensures.tallied;
-}
+pub judge-verdict-requires-clause-sound : goal.judge-verdict-requires-clause-sound
+judge-verdict-requires-clause-sound g c =
+    settles_sound (g.S.Source.meaning c.args.source.now) c.args.carrier c.in_ok-bid.bid c.args.self.now c.call_on.new.self
+    c.in_ok-bid.ensures.answered c.in_ok-bid.ensures.tallied
 
 pub carry_out-requires : goal.carry_out-requires
 carry_out-requires g c = record {

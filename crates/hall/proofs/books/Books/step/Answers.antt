@@ -2,12 +2,12 @@ use Rattle.std.proofs.Common.{length, sym, ap, ◌∙◌, arith}
 use Rattle.hall.proofs.RunSteps.{few_held, step_summons, step_first}
 use Rattle.hall.proofs.books.Books.step.Goals as goal
 
-pub summon_first-requires : goal.summon_first-requires
-summon_first-requires g c =
+pub summon_first-requires-clause-place : goal.summon_first-requires-clause-place
+summon_first-requires-clause-place g c =
     let n = few_held (g.S.Source.meaning c.args.source.now) c.args.self.now c.args.queues.now c.requires.ordered in
     let l = ap length c.in-Some.ensures.waits in
     let f = ap length c.in-Some.ensures.bids in
-    record { «open» = c.requires.open; place = omega (arith, n, l, f) }
+    omega (arith, n, l, f)
 
 pub returns-in-Some : goal.returns-in-Some
 returns-in-Some g c =

@@ -1,18 +1,11 @@
 use Rattle.std.proofs.Common.{ap, ◌∙◌, arith}
 use Rattle.auction.specs.Runs.{looks_for}
-use Rattle.hall.proofs.Tables.{consistent_in}
 use Rattle.hall.proofs.RunSteps.{few_entries, first_summoned}
 use Rattle.hall.proofs.books.Books.summon_first.Goals as goal
 
-pub looks_for-looks_left-requires : goal.looks_for-looks_left-requires
-looks_for-looks_left-requires g c =
-    let m = g.S.Source.meaning c.args.source.now in
-    let k = (consistent_in c.args.self.now).limits in
-    record {
-      some = k.some_lanes;
-      few = k.few_lanes;
-      short = omega (arith, c.row_length.ensures, few_entries m (g.S.Source.sound c.args.source.now) c.args.self.now c.requires.open c.args.carrier);
-    }
+pub looks_for-looks_left-requires-clause-short : goal.looks_for-looks_left-requires-clause-short
+looks_for-looks_left-requires-clause-short g c =
+    omega (arith, c.row_length.ensures, few_entries (g.S.Source.meaning c.args.source.now) (g.S.Source.sound c.args.source.now) c.args.self.now c.requires.open c.args.carrier)
 
 pub returns : goal.returns
 returns g c =

@@ -9,7 +9,7 @@ use Rattle.sources.proofs.Reading.{row_known, row_within}
 use Rattle.auction.specs.Bids.{weighed, weighed_at}
 use Rattle.auction.proofs.Weighed.{weighed_looked}
 use Rattle.hall.specs.Kept.{unsold, prices_of}
-use Rattle.hall.proofs.Entries.{all_dropped, weighed_cut, left_in, take_turn, take_done, price_in}
+use Rattle.hall.proofs.Entries.{all_dropped, weighed_cut, left_in, take_turn, price_in}
 use Rattle.hall.proofs.books.calls.look_on.Goals as goal
 
 pub loop-job-init : goal.loop-job-init
@@ -72,10 +72,3 @@ loop-job-preserved g c =
       within = within.1;
       short = λ l. omega (arith, l, long, inv.short (omega (arith, long)), ap (λ b. b.looked) is, weighed_looked ps bid e);
     }
-
-pub returns : goal.returns
-returns g c =
-    let m = g.S.Source.meaning c.args.source.now in
-    let rest = λ (s : RowEntries _ g.S.Source). drop s.places.start (row_of (g.S.Source.meaning s.source.now) s.carrier) in
-    let ps = take m.jobs (prices_of c.args.lots.now) in
-    sym (ap (fold (weighed ps) c.loop-job.bid) (take_done rest c.loop-job.job-iterator c.next.new.self c.next.result c.in-None.is c.next.ensures.steps)) ∙ c.loop-job.invariant.folded
