@@ -1,66 +1,31 @@
 // The sheet file of a grid, written here anew, without the crate that the loader belongs to.
-use crate::grid::Grid;
+use grids::Grid;
+use grids::groups::push_number;
+use std::alloc::{AllocError, Global};
 
-pub(crate) const MOST: usize = 128;
-
-// The bytes of a file, and how many there are; what does not fit is left out.
-#[derive(Clone, Copy)]
-pub(crate) struct File {
-    pub(crate) bytes: [u8; MOST],
-    pub(crate) len: usize,
+// Appends a row: how many jobs the carrier may take, and each of them with its worth. Gives that count.
+fn push_row(file: &mut Vec<u8>, row: &[u64; 4]) -> Result<u64, AllocError> {
+    let count = row.iter().filter(|worth| **worth > 0).count() as u64;
+    push_number(file, count)?;
+    for (job, worth) in row.iter().enumerate() {
+        if *worth > 0 {
+            push_number(file, job as u64)?;
+            push_number(file, *worth)?;
+        }
+    }
+    Ok(count)
 }
 
-impl File {
-    fn push(&mut self, byte: u8) {
-        if self.len < MOST {
-            self.bytes[self.len] = byte;
-            self.len += 1;
-        }
+// The bytes of a grid's file.
+pub(crate) fn file_of(heap: Global, grid: &Grid) -> Result<Vec<u8>, AllocError> {
+    let mut file = Vec::new(heap);
+    push_number(&mut file, grid.carriers as u64)?;
+    push_number(&mut file, grid.jobs as u64)?;
+    push_number(&mut file, grid.ceiling)?;
+    let mut total = 0u64;
+    for row in grid.worths.iter().take(grid.carriers) {
+        total = total.saturating_add(push_row(&mut file, row)?);
     }
-
-    // In groups of seven bits, the lowest first; the top bit says that another follows.
-    fn push_number(&mut self, mut n: u64) {
-        for _ in 0..9u8 {
-            if n < 128 {
-                break;
-            }
-            self.push((128 + n % 128) as u8);
-            n /= 128;
-        }
-        self.push((n % 128) as u8);
-    }
-
-    fn push_row(&mut self, grid: &Grid, carrier: usize) -> u64 {
-        let mut count = 0u64;
-        for j in 0..4usize {
-            if grid.worth(carrier, j) > 0 {
-                count = count.saturating_add(1);
-            }
-        }
-        self.push_number(count);
-        for j in 0..4usize {
-            let worth = grid.worth(carrier, j);
-            if worth > 0 {
-                self.push_number(j as u64);
-                self.push_number(worth);
-            }
-        }
-        count
-    }
-
-    pub(crate) fn of(grid: &Grid) -> File {
-        let mut file = File {
-            bytes: [0; MOST],
-            len: 0,
-        };
-        file.push_number(grid.carriers as u64);
-        file.push_number(grid.jobs as u64);
-        file.push_number(grid.ceiling);
-        let mut total = 0u64;
-        for i in 0..grid.carriers {
-            total = total.saturating_add(file.push_row(grid, i));
-        }
-        file.push_number(total);
-        file
-    }
+    push_number(&mut file, total)?;
+    Ok(file)
 }

@@ -2,7 +2,6 @@
 #![tactic(auto)]
 
 mod file;
-mod grid;
 mod told;
 mod trial;
 
@@ -17,17 +16,12 @@ const CONTESTED: u32 = 3;
 // Prints how much was tried; ends with status 1 at the first listing that is wrong.
 fn main(rt: HostRuntime) -> anyhow::Result<()> {
     let mut draw = Draw::new(20261118);
-    let mut sums = Sums {
-        best: 0,
-        open: 0,
-        damaged: 0,
-        refused: 0,
-    };
+    let mut sums = Sums::default();
     for _ in 0..SHEETS {
-        trial::on_small_sheet(&mut draw, &mut sums)?;
+        trial::on_small_sheet(rt.alloc(), &mut draw, &mut sums)?;
     }
     for _ in 0..CONTESTED {
-        trial::on_contested_sheet(&mut draw, &mut sums)?;
+        trial::on_contested_sheet(rt.alloc(), &mut draw, &mut sums)?;
     }
     let Sums {
         best,

@@ -1,121 +1,85 @@
-// A listing, read back byte by byte, and held against the grid.
-use crate::grid::Grid;
+// A listing, read back line by line, and held against the grid.
+use grids::Grid;
 
 // What a listing tells, if every line of it is right.
-#[derive(Clone, Copy)]
+#[derive(Clone, Copy, Default)]
 pub(crate) struct Told {
     pub(crate) worth: u64,
     // How many carriers have `?`.
     pub(crate) open: u64,
 }
 
-#[derive(Drop)]
-struct Reader<'a> {
-    bytes: &'a [u8],
-    at: usize,
+// What a line tells of its carrier.
+#[derive(Clone, Copy)]
+enum Line {
+    Served { job: u64, worth: u64 },
+    Open,
+    Out,
 }
 
-impl Reader<'_> {
-    fn peek(&self) -> Option<u8> {
-        self.bytes.get(self.at).copied()
-    }
-
-    // Whether this text comes next, which is then passed.
-    fn takes(&mut self, text: &[u8]) -> bool {
-        for byte in text {
-            if self.peek() != Some(*byte) {
-                return false;
-            }
-            self.at = self.at.saturating_add(1);
-        }
-        true
-    }
-
-    // The number that comes next, which is then passed.
-    fn number(&mut self) -> Option<u64> {
-        let mut found = None;
-        for _ in 0..20u8 {
-            match self.peek() {
-                Some(byte @ b'0'..=b'9') => {
-                    let digit = u64::from(byte - b'0');
-                    found = Some(
-                        found
-                            .unwrap_or(0u64)
-                            .saturating_mul(10)
-                            .saturating_add(digit),
-                    );
-                    self.at = self.at.saturating_add(1);
-                }
-                _ => break,
-            }
-        }
-        found
-    }
-}
-
-// Whether a carrier's job is not taken yet, and is worth what the line says.
-fn is_job(grid: &Grid, carrier: usize, job: u64, worth: u64, taken: &mut [bool; 4]) -> bool {
-    if job >= 4 {
-        return false;
-    }
-    let job = job as usize;
-    let good = !taken[job] && worth > 0 && worth == grid.worth(carrier, job);
-    taken[job] = true;
-    good
-}
-
-// Reads the line of a carrier, and adds it up; whether it is right.
-fn read_line(
-    reader: &mut Reader,
-    grid: &Grid,
-    carrier: usize,
-    taken: &mut [bool; 4],
-    told: &mut Told,
-) -> bool {
-    if reader.number() != Some(carrier as u64) || !reader.takes(b" ") {
-        return false;
-    }
-    let good = match reader.number() {
-        Some(job) => {
-            let parted = reader.takes(b" ");
-            let worth = reader.number().unwrap_or(0);
-            told.worth = told.worth.saturating_add(worth);
-            parted && is_job(grid, carrier, job, worth, taken)
-        }
-        None if reader.peek() == Some(b'?') => {
-            told.open = told.open.saturating_add(1);
-            reader.takes(b"?")
-        }
-        None => reader.takes(b"-"),
-    };
-    good && reader.takes(b"\n")
-}
-
-// Whether the last line comes next, its worth is the sum, and nothing follows.
-fn read_last(reader: &mut Reader, told: &Told) -> bool {
-    reader.takes(b"worth ")
-        && reader.number() == Some(told.worth)
-        && reader.takes(b" awards ")
-        && reader.number().is_some()
-        && reader.takes(b" stale ")
-        && reader.number().is_some()
-        && reader.takes(b"\n")
-        && reader.peek().is_none()
-}
-
-// What a listing of the grid tells; none if a line is wrong or missing.
-pub(crate) fn read_listing(grid: &Grid, text: &[u8]) -> Option<Told> {
-    let mut reader = Reader { bytes: text, at: 0 };
-    let mut told = Told { worth: 0, open: 0 };
-    let mut taken = [false; 4];
-    for i in 0..grid.carriers {
-        if !read_line(&mut reader, grid, i, &mut taken, &mut told) {
-            return None;
-        }
-    }
-    if read_last(&mut reader, &told) {
-        Some(told)
+// A number in decimal digits, and nothing else.
+fn number(field: &str) -> Option<u64> {
+    if field.bytes().all(|byte| byte.is_ascii_digit()) {
+        field.parse().ok()
     } else {
         None
     }
+}
+
+// The line of a carrier, without its end.
+fn read_line(line: &str, carrier: usize) -> Option<Line> {
+    let (first, rest) = line.split_once(' ')?;
+    if number(first)? != carrier as u64 {
+        return None;
+    }
+    match rest {
+        "?" => Some(Line::Open),
+        "-" => Some(Line::Out),
+        _ => {
+            let (job, worth) = rest.split_once(' ')?;
+            Some(Line::Served {
+                job: number(job)?,
+                worth: number(worth)?,
+            })
+        }
+    }
+}
+
+// Takes a job that is not taken yet, and is worth what the line says.
+fn take_job(grid: &Grid, carrier: usize, line: (u64, u64), taken: &mut [bool; 4]) -> Option<()> {
+    let (job, worth) = line;
+    let place = taken.get_mut(job as usize)?;
+    if *place || worth == 0 || worth != grid.worth(carrier, job as usize) {
+        return None;
+    }
+    *place = true;
+    Some(())
+}
+
+// The worth that the last line tells, without its end.
+fn read_last(line: &str) -> Option<u64> {
+    let (worth, counts) = line.strip_prefix("worth ")?.split_once(' ')?;
+    let (awards, stale) = counts.strip_prefix("awards ")?.split_once(' ')?;
+    number(awards)?;
+    number(stale.strip_prefix("stale ")?)?;
+    number(worth)
+}
+
+// What a listing of the grid tells; none if a line is wrong or missing, or something follows.
+pub(crate) fn read_listing(grid: &Grid, text: &str) -> Option<Told> {
+    let mut lines = text.strip_suffix('\n')?.split('\n');
+    let mut told = Told::default();
+    let mut taken = [false; 4];
+    for carrier in 0..grid.carriers {
+        match read_line(lines.next()?, carrier)? {
+            Line::Served { job, worth } => {
+                take_job(grid, carrier, (job, worth), &mut taken)?;
+                told.worth = told.worth.saturating_add(worth);
+            }
+            Line::Open => told.open = told.open.saturating_add(1),
+            Line::Out => {}
+        }
+    }
+    let last = read_last(lines.next()?)?;
+    (last == told.worth && lines.next().is_none()).then_some(told)
 }

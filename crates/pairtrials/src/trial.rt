@@ -1,18 +1,22 @@
 // One sheet: its listing beside the best pairing, buffers of every kind, and damaged files.
-use crate::file::{File, MOST};
-use crate::grid::Grid;
+use crate::file::file_of;
 use crate::told::{Told, read_listing};
-use anyhow::anyhow;
+use anyhow::{Context, ensure};
 use draws::Draw;
+use grids::Grid;
 use pairing::list_pairs;
 use refusals::Refusal;
+use std::alloc::Global;
+use std::str;
 
 const ROOM: usize = 512;
 
 const UNTOUCHED: u8 = b'#';
 
+const WRONG: &str = "a listing is wrong";
+
 // How much was tried.
-#[derive(Drop)]
+#[derive(Default, Drop)]
 pub(crate) struct Sums {
     pub(crate) best: u64,
     pub(crate) open: u64,
@@ -20,22 +24,32 @@ pub(crate) struct Sums {
     pub(crate) refused: u64,
 }
 
-// Whether all bytes are as they were.
-fn is_untouched(bytes: &[u8]) -> bool {
-    let mut same = true;
-    for byte in bytes {
-        same = same && *byte == UNTOUCHED;
+// Three carriers, and two jobs of the same high worth to all of them.
+fn contested(draw: &mut Draw) -> Grid {
+    let worth = 2_000_000 + draw.below(1000);
+    let row = [worth, worth, 0, 0];
+    Grid {
+        carriers: 3,
+        jobs: 2,
+        ceiling: worth,
+        worths: [row, row, row, [0; 4]],
     }
-    same
 }
 
-// What the listing of the grid tells; none if it is wrong, or a byte behind it is touched.
-fn listed(grid: &Grid, sheet: &[u8], out: &mut [u8; ROOM]) -> Option<(Told, usize)> {
+// Whether all bytes are as they were.
+fn is_untouched(bytes: &[u8]) -> bool {
+    bytes.iter().all(|byte| *byte == UNTOUCHED)
+}
+
+// The listing of a sheet in a buffer; none if the sheet is refused, or a byte behind the listing is touched.
+fn listing_in<'a>(sheet: &[u8], out: &'a mut [u8; ROOM]) -> Option<&'a str> {
     let len = list_pairs(sheet, out).ok()?;
-    if len > ROOM || !is_untouched(&out[len..ROOM]) {
-        return None;
+    let (text, behind) = out.split_at_checked(len)?;
+    if is_untouched(behind) {
+        str::from_utf8(text).ok()
+    } else {
+        None
     }
-    Some((read_listing(grid, &out[0..len])?, len))
 }
 
 // Whether a call is refused with this, and touches none of the bytes.
@@ -43,71 +57,74 @@ fn is_refused(sheet: &[u8], out: &mut [u8], refusal: Refusal) -> bool {
     list_pairs(sheet, out) == Err(refusal) && is_untouched(out)
 }
 
-// A listing is right, and worth as much as the best pairing unless the auction was cut off.
-fn on_grid(grid: &Grid, file: &File, sums: &mut Sums) -> bool {
-    let sheet = &file.bytes[0..file.len.min(MOST)];
+// A listing is right, and worth as much as the best pairing unless the auction was cut off; and it is refused where one byte less
+// is lent.
+fn on_grid(grid: &Grid, sheet: &[u8], sums: &mut Sums) -> anyhow::Result<()> {
     let mut out = [UNTOUCHED; ROOM];
-    let Some((told, len)) = listed(grid, sheet, &mut out) else {
-        return false;
-    };
-    if told.open == 0 {
-        sums.best = sums.best.saturating_add(1);
+    let text = listing_in(sheet, &mut out).context(WRONG)?;
+    let Told { worth, open } = read_listing(grid, text).context(WRONG)?;
+    let count = if open == 0 {
+        &mut sums.best
     } else {
-        sums.open = sums.open.saturating_add(1);
-    }
+        &mut sums.open
+    };
+    *count = count.saturating_add(1);
     let best = grid.best();
+    ensure!(worth <= best && (worth == best || open > 0), WRONG);
     let mut short = [UNTOUCHED; ROOM];
-    told.worth <= best
-        && (told.worth == best || told.open > 0)
-        && is_refused(
-            sheet,
-            &mut short[0..len.saturating_sub(1).min(ROOM)],
-            Refusal::TooShort,
-        )
+    let room = text.len().saturating_sub(1).min(ROOM);
+    ensure!(
+        is_refused(sheet, &mut short[..room], Refusal::TooShort),
+        WRONG
+    );
+    Ok(())
 }
 
 // A file with one byte changed: refused, and then the buffer is as it was, or paired.
-fn on_damaged(draw: &mut Draw, file: &File, sums: &mut Sums) -> bool {
-    let mut damaged = *file;
-    let at = draw.below(file.len as u64) as usize;
-    if at < MOST {
-        damaged.bytes[at] = draw.below(256) as u8;
+fn on_damaged(heap: Global, draw: &mut Draw, sheet: &[u8], sums: &mut Sums) -> anyhow::Result<()> {
+    let mut damaged = Vec::from_slice(heap, sheet)?;
+    let at = draw.below(sheet.len() as u64) as usize;
+    if let Some(byte) = damaged.get_mut(at) {
+        *byte = draw.below(256) as u8;
     }
     let mut out = [UNTOUCHED; ROOM];
     sums.damaged = sums.damaged.saturating_add(1);
-    match list_pairs(&damaged.bytes[0..file.len.min(MOST)], &mut out) {
-        Ok(len) => len > 0 && len <= ROOM && is_untouched(&out[len..ROOM]),
+    let touched = match list_pairs(&damaged, &mut out) {
+        Ok(len) => len,
         Err(_) => {
             sums.refused = sums.refused.saturating_add(1);
-            is_untouched(&out)
+            0
         }
-    }
+    };
+    ensure!(out.get(touched..).is_some_and(is_untouched), WRONG);
+    Ok(())
 }
 
 // A file that is cut, or has a byte more, is refused.
-fn on_cut(draw: &mut Draw, file: &File) -> bool {
-    let cut = draw.below(file.len as u64) as usize;
-    let longer = file.len.saturating_add(1).min(MOST);
+fn on_cut(heap: Global, draw: &mut Draw, sheet: &[u8]) -> anyhow::Result<()> {
     let mut out = [UNTOUCHED; ROOM];
-    is_refused(&file.bytes[0..cut.min(MOST)], &mut out, Refusal::NumberCut)
-        && is_refused(&file.bytes[0..longer], &mut out, Refusal::BytesFollow)
+    let cut = draw.below(sheet.len() as u64) as usize;
+    let start = sheet.get(..cut).context(WRONG)?;
+    ensure!(is_refused(start, &mut out, Refusal::NumberCut), WRONG);
+    let mut longer = Vec::from_slice(heap, sheet)?;
+    longer.push(0)?;
+    ensure!(is_refused(&longer, &mut out, Refusal::BytesFollow), WRONG);
+    Ok(())
 }
 
-fn told(good: bool) -> anyhow::Result<()> {
-    if good {
-        Ok(())
-    } else {
-        Err(anyhow!("a listing is wrong"))
-    }
+pub(crate) fn on_small_sheet(heap: Global, draw: &mut Draw, sums: &mut Sums) -> anyhow::Result<()> {
+    let grid = Grid::draw(draw, 400);
+    let sheet = file_of(heap, &grid)?;
+    on_grid(&grid, &sheet, sums)?;
+    on_damaged(heap, draw, &sheet, sums)?;
+    on_cut(heap, draw, &sheet)
 }
 
-pub(crate) fn on_small_sheet(draw: &mut Draw, sums: &mut Sums) -> anyhow::Result<()> {
-    let grid = Grid::draw(draw);
-    let file = File::of(&grid);
-    told(on_grid(&grid, &file, sums) && on_damaged(draw, &file, sums) && on_cut(draw, &file))
-}
-
-pub(crate) fn on_contested_sheet(draw: &mut Draw, sums: &mut Sums) -> anyhow::Result<()> {
-    let grid = Grid::contested(draw);
-    told(on_grid(&grid, &File::of(&grid), sums))
+pub(crate) fn on_contested_sheet(
+    heap: Global,
+    draw: &mut Draw,
+    sums: &mut Sums,
+) -> anyhow::Result<()> {
+    let grid = contested(draw);
+    on_grid(&grid, &file_of(heap, &grid)?, sums)
 }
