@@ -12,10 +12,12 @@ fn a_run_to_its_end(rt: HostRuntime) -> Result<(), Fail> {
     hall.start(1, 4)?;
     let report = Report {
         steps: 12,
-        summonses: 4,
-        awards: 4,
-        stales: 0,
-        outs: 0,
+        counts: Counts {
+            summonses: 4,
+            awards: 4,
+            stales: 0,
+            outs: 0,
+        },
         ending: Ending::Done,
     };
     assert_eq!(rt; hall.run(1, 100), Ok(report));
@@ -36,10 +38,12 @@ fn a_spent_run_goes_on(rt: HostRuntime) -> Result<(), Fail> {
     hall.start(1, 4)?;
     let first = Report {
         steps: 6,
-        summonses: 3,
-        awards: 0,
-        stales: 0,
-        outs: 0,
+        counts: Counts {
+            summonses: 3,
+            awards: 0,
+            stales: 0,
+            outs: 0,
+        },
         ending: Ending::Spent,
     };
     assert_eq!(rt; hall.run(3, 6), Ok(first));
@@ -56,10 +60,12 @@ fn a_spent_run_goes_on(rt: HostRuntime) -> Result<(), Fail> {
     assert_eq!(rt; hall.standing(2), Ok(Standing::Bidding(bid)));
     let rest = Report {
         steps: 9,
-        summonses: 2,
-        awards: 4,
-        stales: 1,
-        outs: 0,
+        counts: Counts {
+            summonses: 2,
+            awards: 4,
+            stales: 1,
+            outs: 0,
+        },
         ending: Ending::Done,
     };
     assert_eq!(rt; hall.run(3, 9), Ok(rest));
@@ -81,10 +87,7 @@ fn runs_without_a_step(rt: HostRuntime) -> Result<(), Fail> {
     hall.start(1, 1)?;
     let spent = Report {
         steps: 0,
-        summonses: 0,
-        awards: 0,
-        stales: 0,
-        outs: 0,
+        counts: Counts::default(),
         ending: Ending::Spent,
     };
     assert_eq!(rt; hall.run(128, 0), Ok(spent));
