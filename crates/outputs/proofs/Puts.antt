@@ -6,7 +6,7 @@ use Rattle.outputs.specs.Puts.{Puts}
 use Rattle.outputs.specs.declared.Output.{Output}
 
 -- other elements in the stead of some, then of those behind them
-splice_then : {A : Type 0} (xs ys zs : List A) (a : ℕ) → a + length ys ≤ length xs
+pub splice_then : {A : Type 0} (xs ys zs : List A) (a : ℕ) → a + length ys ≤ length xs
     → splice (splice xs a (a + length ys) ys) (a + length ys) (a + length ys + length zs) zs ≡ splice xs a (a + length (ys ++ zs)) (ys ++ zs)
 splice_then xs ys zs a fits =
     let rest = drop (a + length ys) xs in

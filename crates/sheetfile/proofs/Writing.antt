@@ -1,8 +1,9 @@
 -- Bytes put one after another, and rows read through a source.
-use Rattle.std.proofs.Common.{◌≡◌, ℕ, suc, ◌+◌, ◌*◌, ◌^◌, ◌<◌, ◌≤◌, true, ltb, leb, List, [], ◌∷◌, ◌++◌, map, length, get_or, take, Ok, Err, sym, refl, ap, ◌∙◌, subst, ⊎_elim, arith}
+use Rattle.std.proofs.Common.{◌≡◌, ℕ, ◌+◌, ◌*◌, ◌^◌, ◌<◌, ◌≤◌, true, ltb, leb, List, [], ◌∷◌, ◌++◌, map, length, get_or, take, Ok, Err, sym, refl, ap, ◌∙◌, subst, ⊎_elim, arith}
 use Rattle.std.proofs.ByRecursion.{All-from_get_or, All-take}
+use Rattle.std.proofs.lemmas.List.Sums.{count_by-le-length, length-filter}
 use Rattle.std.proofs.lemmas.List.{flat_map_more, length-append, length-take-le, map_more}
-use Rattle.std.proofs.lemmas.Bool.{and_from, cases_lt, cond_both, cond-false, cond-true, le-leb, le-ltb, lt-ltb}
+use Rattle.std.proofs.lemmas.Bool.{and_from, cases_lt, cond-false, cond-true, le-leb, le-ltb, lt-ltb}
 use Rattle.std.specs.List.{flat_map, AllByRecursion}
 use Rattle.refusals.specs.declared.Refusal.{Refusal}
 use Rattle.refusals.specs.declared.Refusal.TheVariants.{TooShort}
@@ -79,8 +80,7 @@ parts_short [] s = omega arith
 parts_short (e ∷ es) s = let n = length-append (nonzero_bytes e) (flat_map nonzero_bytes es) in let p = part_short e s.0 in let i = parts_short es s.1 in omega arith
 
 pub kept_short : (row : Row) → length (nonzero row) ≤ length row
-kept_short [] = omega arith
-kept_short (e ∷ es) = let i = kept_short es in cond_both (ltb 0 e.1) (e ∷ nonzero es) (nonzero es) (λ l. length l ≤ suc (length es)) (λ _. omega arith) (λ _. omega arith)
+kept_short row = omega (arith, length-filter (λ e. ltb 0 e.1) row, count_by-le-length (λ e. ltb 0 e.1) row)
 
 pub heading_short : (h : Heading) → HeadingIn h → length (heading_bytes h) ≤ 18
 heading_short h g =

@@ -4,7 +4,7 @@ ghost use Rattle.numbers.specs.Groups.{encoded};
 ghost use Rattle.numbers.specs.Writing.{over};
 ghost use Rattle.outputs.specs.Puts.{Puts};
 ghost use Rattle.sheetfile.specs.Laws.{WritesLoadable};
-ghost use Rattle.sheetfile.specs.Layout.{heading_bytes, row_bytes};
+ghost use Rattle.sheetfile.specs.Layout.{row_bytes};
 ghost use Rattle.sheetfile.specs.Writing.{nonzero, nonzero_bytes, out_after, write_answer, written};
 ghost use Rattle.sources.specs.Meaning.{row_of};
 ghost use Rattle.sources.specs.Sheets.{within_limits};
@@ -15,7 +15,6 @@ use outputs::Output;
 use refusals::Refusal;
 use sources::asking::{entries, heading_of};
 use sources::checks::within_limits;
-use sources::form::Heading;
 use sources::source::Source;
 
 fn put_number(output: &mut Output<'_>, n: u64)
@@ -64,23 +63,15 @@ fn put_row<S: Source>(source: &S, carrier: usize, output: &mut Output<'_>) -> us
     count
 }
 
-// Puts the three numbers of a heading.
-fn put_heading(heading: Heading, output: &mut Output<'_>)
-    requires { within_limits heading ≡ true }
-    ensures { Puts output.old output.new (heading_bytes heading) }
-{
-    put_number(output, heading.carriers as u64);
-    put_number(output, heading.jobs as u64);
-    put_number(output, heading.ceiling);
-}
-
-// Puts a whole file.
+// Puts a whole file: its heading, its rows and the total of their counts.
 fn put_file<S: Source>(source: &S, output: &mut Output<'_>)
     requires { within_limits (heading_of (S.Source.meaning source.now)) ≡ true }
     ensures { Puts output.old output.new (written (S.Source.meaning source.now)) }
 {
     let heading = heading_of(source);
-    put_heading(heading, output);
+    put_number(output, heading.carriers as u64);
+    put_number(output, heading.jobs as u64);
+    put_number(output, heading.ceiling);
     let mut total = 0;
     for i in 0..heading.carriers {
         total += put_row(source, i, output);

@@ -25,8 +25,8 @@ loop-i-preserved g c =
     let inside : c.loop-i.i < length (g.S.Source.meaning c.args.source.now).rows = omega (arith, (g.S.Source.sound c.args.source.now).counted, ap (λ (h : Heading). h.carriers) c.heading_of-heading.ensures) in
     (puts_same (rows_more m.rows c.loop-i.i inside) (puts_then c.loop-i.invariant.0 c.put_row-total.ensures.row), omega (arith, c.loop-i.invariant.1, c.put_row-total.ensures.count, entries_more m.rows c.loop-i.i inside))
 
-pub put_number-requires : goal.put_number-requires
-put_number-requires g c =
+pub put_number-requires-4 : goal.put_number-requires-4
+put_number-requires-4 g c =
     omega (arith, c.loop-i.invariant.1, total_few (g.S.Source.meaning c.args.source.now) (g.S.Source.sound c.args.source.now) c.requires c.loop-i.i (omega (arith, ap (λ (h : Heading). h.carriers) c.heading_of-heading.ensures)))
 
 pub returns : goal.returns
@@ -38,4 +38,4 @@ returns g c =
     (ap (λ h. heading_bytes h ++ (flat_map row_bytes (map nonzero (take c.loop-i.i m.rows)) ++ encoded c.loop-i.total)) c.heading_of-heading.ensures
     ∙ ap (λ n. heading_bytes (heading_of m) ++ (flat_map row_bytes (map nonzero (take c.loop-i.i m.rows)) ++ encoded n)) l.invariant.1
     ∙ ap (λ rows. heading_bytes (heading_of m) ++ (flat_map row_bytes (map nonzero rows) ++ encoded (entries_in (map nonzero rows)))) all)
-    (puts_then c.put_heading.ensures (puts_then l.invariant.0 c.put_number.ensures))
+    (puts_then (puts_then c.put_number.ensures (puts_then c.put_number-2.ensures c.put_number-3.ensures)) (puts_then l.invariant.0 c.put_number-4.ensures))
