@@ -18,7 +18,7 @@ struct Lot {
 }
 
 // A flag, and no `Option`: every call would have to open it, while `is_open` reads it together with what start noted.
-// Arrays with the numbers used in `noted`: no heap is used here, since C calls it.
+// Arrays, of which the first `noted.jobs` and `noted.carriers` are used: no heap is used here, since C calls it.
 #[derive(Drop)]
 pub struct Books {
     started: bool,

@@ -43,10 +43,12 @@ weighed-bid-requires g c =
     let long = ap length turn.0 in
     let known = subst (AllByRecursion (λ e. e.0 < m.jobs)) turn.0 inv.known in
     let within = subst (AllByRecursion (λ e. e.1 ≤ m.ceiling)) turn.0 inv.within in
-    let price = price_in c.args.lots.now job unsold (omega (arith, known.0, c.requires.few_jobs)) in (
-      omega (arith, long, inv.short (omega (arith, long))),
-      (omega (arith, within.0, sound.small), omega (arith, price, get_or-take m.jobs (prices_of c.args.lots.now) job 0 known.0, c.requires.low_prices job)),
-    )
+    let price = price_in c.args.lots.now job unsold (omega (arith, known.0, c.requires.few_jobs)) in
+    record {
+      few_looked = omega (arith, long, inv.short (omega (arith, long)));
+      low_worth = omega (arith, within.0, sound.small);
+      low_price = omega (arith, price, get_or-take m.jobs (prices_of c.args.lots.now) job 0 known.0, c.requires.low_prices job);
+    }
 
 pub loop-job-preserved : goal.loop-job-preserved
 loop-job-preserved g c =
