@@ -1,5 +1,5 @@
 -- Bytes put one after another, and rows read through a source.
-use Rattle.std.proofs.Common.{◌≡◌, ℕ, ◌+◌, ◌*◌, ◌^◌, ◌<◌, ◌≤◌, true, ltb, leb, List, [], ◌∷◌, ◌++◌, map, length, get_or, take, Ok, Err, sym, refl, ap, ◌∙◌, subst, ⊎_elim, arith}
+use Rattle.std.proofs.Common.{◌≡◌, ℕ, ◌+◌, ◌*◌, ◌^◌, ◌<◌, ◌≤◌, true, ltb, leb, List, [], ◌∷◌, ◌++◌, map, length, get_or, take, Ok, Err, sym, refl, ap, ◌∙◌, ⊎_elim, arith}
 use Rattle.std.proofs.ByRecursion.{All-from_get_or, All-take}
 use Rattle.std.proofs.lemmas.List.Sums.{count_by-le-length, length-filter}
 use Rattle.std.proofs.lemmas.List.{flat_map_more, length-append, length-take-le, map_more}
@@ -16,10 +16,8 @@ use Rattle.sources.specs.Sheets.{within_limits}
 use Rattle.sources.specs.Tables.{heading_of}
 use Rattle.sources.specs.declared.form.Heading.{Heading}
 use Rattle.sheetfile.specs.Layout.{Row, entries_in, entry_bytes, heading_bytes, row_bytes}
-use Rattle.numbers.specs.Writing.{over}
-use Rattle.sheetfile.specs.Writing.{Writes, nonzero, nonzero_bytes, written}
+use Rattle.sheetfile.specs.Writing.{nonzero, nonzero_bytes, written}
 use Rattle.sheetfile.proofs.Bounds.{HeadingIn, limits}
-use Rattle.sheetfile.proofs.Overs.{over_none, over-over}
 use Rattle.sheetfile.proofs.Sheets.{entries_push}
 use Rattle.sheetfile.proofs.Steps.{err_not_ok}
 
@@ -33,24 +31,6 @@ never_refused n e small is =
     let short = encoded_short n small in
     let fits : fits_at 6 0 n ≡ true = and_from (leb (length (encoded n)) 6) (leb (0 + length (encoded n)) 6) (le-leb (length (encoded n)) 6 short) (le-leb (0 + length (encoded n)) 6 (omega arith)) in
     err_not_ok e (0 + length (encoded n)) (is ∙ cond-true (fits_at 6 0 n) (Ok (0 + length (encoded n))) (Err TooShort) fits)
-
--- nothing, and one after another
-pub writes_none : (out : List ℕ) (at : ℕ) → Writes out out at at []
-writes_none out at = (omega arith, λ _. sym (over_none out at))
-
-pub writes_then : (o p q : List ℕ) (a b c : ℕ) (x y : List ℕ) → length p ≡ length o → Writes o p a b x → Writes p q b c y → Writes o q a c (x ++ y)
-writes_then o p q a b c x y long f g =
-    let n = length-append x y in
-    let e = f.0 in
-    let e' = g.0 in (
-      omega arith,
-      λ room.
-          let first : p ≡ over o a x = f.1 (omega arith) in
-          g.1 (omega arith) ∙ ap (λ z. over z b y) first ∙ ap (λ m. over (over o a x) m y) e ∙ over-over o x y a (length x) refl (omega arith),
-    )
-
-pub writes_same : (o p : List ℕ) (a b : ℕ) (x y : List ℕ) → x ≡ y → Writes o p a b x → Writes o p a b y
-writes_same o p a b x y same f = subst (λ z. Writes o p a b z) same f
 
 -- the bytes of an entry
 pub part_some : (e : ℕ × ℕ) → 0 < e.1 → nonzero_bytes e ≡ entry_bytes e

@@ -1,5 +1,5 @@
 -- What is written of a source.
-use Rattle.std.specs.Prelude.{◌≡◌, ℕ, ◌+◌, ◌≤◌, cond, ltb, List, [], map, length, Err, filter, Result, nat_lt}
+use Rattle.std.specs.Prelude.{ℕ, cond, ltb, List, [], map, length, Err, filter, Result, nat_lt}
 use Rattle.refusals.specs.Faults.{fault_of}
 use Rattle.refusals.specs.declared.Fault.{Fault}
 use Rattle.refusals.specs.declared.Refusal.{Refusal}
@@ -46,7 +46,3 @@ rewrite_answer bs starts room out = and_then (loaded bs starts room) (λ _. room
 -- The bytes of an entry that is written; none of an entry of worth 0.
 abbrev pub nonzero_bytes : ℕ × ℕ → List ℕ
 nonzero_bytes e = cond (nat_lt 0 e.1) (entry_bytes e) []
-
--- Bytes are written from a place up to the next one, if there is room for them; out becomes out'.
-abbrev pub Writes : List ℕ → List ℕ → ℕ → ℕ → List ℕ → Type 0
-Writes out out' at next bytes = (next ≡ at + length bytes) × (next ≤ length out → out' ≡ over out at bytes)
