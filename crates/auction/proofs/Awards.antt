@@ -1,5 +1,6 @@
 -- An award keeps the tally consistent.
 use Rattle.std.proofs.Common.{◌≡◌, ℕ, ◌+◌, ◌-◌, ◌*◌, ◌<◌, ◌≤◌, Bool, true, false, List, length, get_or, set, Some, None, count_by, Option, sym, refl, ap, ◌∙◌, subst, ⊎_elim, arith}
+use Rattle.std.proofs.lemmas.Option.{none-some}
 use Rattle.std.proofs.lemmas.Bool.{cases_eq, cases_Bool, eq-eqb, ne_eqb}
 use Rattle.std.proofs.lemmas.List.{get_or-set_same, get_or-set_other, length-set}
 use Rattle.std.proofs.lemmas.List.Sums.{sum_by-set}
@@ -14,7 +15,7 @@ use Rattle.auction.specs.Bids.{offer}
 use Rattle.auction.specs.Rules.{freed, carried_out}
 use Rattle.auction.specs.Consistent.{Consistent, BestSound, StandingSound, is_risen}
 use Rattle.auction.proofs.Counted.{one, count_set, count_short}
-use Rattle.auction.proofs.Matching.{none_some, holds_within, holds_other, is_holder_lem, holder_is, holder_holds, length-freed, freed_other, freed_waits, freed_count}
+use Rattle.auction.proofs.Matching.{holds_within, holds_other, is_holder_lem, holder_is, holder_holds, length-freed, freed_other, freed_waits, freed_count}
 
 module _ (carriers jobs ceiling : ℕ) (t : Tally) (con : Consistent carriers jobs ceiling t) (i : ℕ) (l : i < carriers) (b : Bid) (bidding : standing_at t i ≡ Bidding b)
     (r : ℕ) (x : Best) (good : BestSound jobs ceiling r x) (above : price_at t x.job < offer t.step r x) where
@@ -131,7 +132,7 @@ module _ (carriers jobs ceiling : ℕ) (t : Tally) (con : Consistent carriers jo
     standings_sized = sized;
     sound = λ k. each_after (λ _ s. StandingSound jobs ceiling s) good.low_worth (λ _ _. tt) k (λ _. con.sound k);
     matched = matched';
-    unheld = λ a e. ⊎_elim (λ q. absurd (none_some (sym e ∙ ap (λ z. get_or hs z None) q ∙ holder_here)))
+    unheld = λ a e. ⊎_elim (λ q. absurd (none-some _ (sym e ∙ ap (λ z. get_or hs z None) q ∙ holder_here)))
         (λ ne. price_there a ne ∙ con.unheld a (sym (holder_there a ne) ∙ e)) (cases_eq a j);
     low_prices = λ a. ⊎_elim (λ q. let p : get_or new_prices a 0 ≡ c = ap (λ z. get_or new_prices z 0) q ∙ price_here in let w = good.low_worth in omega (arith, p, w))
         (λ ne. let p = price_there a ne in let d = con.low_prices a in omega (arith, p, d)) (cases_eq a j);

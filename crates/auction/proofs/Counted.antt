@@ -1,5 +1,6 @@
 -- Counts of what passes a test, where one element changes.
-use Rattle.std.proofs.Common.{◌≡◌, ℕ, zero, suc, ◌+◌, ◌<◌, ◌≤◌, Bool, true, false, cond, List, [], ◌∷◌, length, get_or, set, replicate, count_by, refl, ap, ◌∙◌, arith}
+use Rattle.std.proofs.Common.{◌≡◌, ℕ, zero, suc, ◌+◌, ◌*◌, ◌<◌, ◌≤◌, Bool, true, false, cond, List, [], ◌∷◌, length, get_or, set, replicate, count_by, ap, ◌∙◌, arith}
+use Rattle.std.proofs.lemmas.List.Folds.{sum_by-replicate}
 use Rattle.std.proofs.lemmas.List.Sums.{sum_by-cons, sum_by-set, count_by-le-length}
 
 abbrev pub one : Bool → ℕ
@@ -23,7 +24,4 @@ count_short p (x ∷ xs) (suc i) d l e =
     omega (arith, sum_by-cons (λ y. cond (p y) 1 0) x xs, count_short p xs i d (omega arith) e, one_most (p x))
 
 pub none_counted : {X : Type 0} (p : X → Bool) (n : ℕ) (x : X) → p x ≡ false → count_by p (replicate n x) ≡ 0
-none_counted p zero x e = refl
-none_counted p (suc n) x e =
-    let z : one (p x) ≡ 0 = ap one e in
-    sum_by-cons (λ y. cond (p y) 1 0) x (replicate n x) ∙ omega (arith, z, none_counted p n x e)
+none_counted p n x e = sum_by-replicate (λ y. cond (p y) 1 0) n x ∙ ap (λ b. n * one b) e ∙ omega arith

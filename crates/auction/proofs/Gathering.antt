@@ -4,7 +4,7 @@ use Rattle.std.specs.Option.{option_to_list}
 use Rattle.std.specs.List.{AllByRecursion}
 use Rattle.std.proofs.lemmas.List.{append-nil}
 use Rattle.std.proofs.ByRecursion.{All-push, All-weaker}
-use Rattle.std.proofs.lemmas.Bool.{cond_both}
+use Rattle.std.proofs.lemmas.Bool.{cond_both, false≢true}
 use Rattle.refusals.specs.declared.Refusal.{Refusal}
 use Rattle.auction.specs.declared.standing.Best.{Best}
 use Rattle.auction.specs.declared.standing.Bid.{Bid}
@@ -94,8 +94,8 @@ module _ (ps : List ℕ) where
 
 -- An accepted look finds an open bid, and looks on.
 pub look_from : (lanes : ℕ) (ps : List ℕ) (row : List (ℕ × ℕ)) (s : Standing) (x : Bid) → bid_after lanes ps row s Look ≡ Ok x → (b : Bid) × (s ≡ Bidding b) × (looked_on lanes ps row b ≡ x)
-look_from lanes ps row Waiting x e = let z : ◌≡◌ {A = ℕ} 0 1 = cc in absurd (omega arith)
+look_from lanes ps row Waiting x e = absurd (false≢true cc)
 look_from lanes ps row (Bidding b) x e =
-    (b, refl, cond_both {A = Result Bid Refusal} (looked_all row b) _ _ (λ r. r ≡ Ok x → looked_on lanes ps row b ≡ x) (λ _ q. let z : ◌≡◌ {A = ℕ} 0 1 = cc in absurd (omega arith)) (λ _ q. cc) e)
-look_from lanes ps row (Served h) x e = let z : ◌≡◌ {A = ℕ} 0 1 = cc in absurd (omega arith)
-look_from lanes ps row Out x e = let z : ◌≡◌ {A = ℕ} 0 1 = cc in absurd (omega arith)
+    (b, refl, cond_both {A = Result Bid Refusal} (looked_all row b) _ _ (λ r. r ≡ Ok x → looked_on lanes ps row b ≡ x) (λ _ q. absurd (false≢true cc)) (λ _ q. cc) e)
+look_from lanes ps row (Served h) x e = absurd (false≢true cc)
+look_from lanes ps row Out x e = absurd (false≢true cc)

@@ -1,7 +1,7 @@
 -- Start, summon, look and settle keep the tally consistent; and no count of a consistent tally is large.
 use Rattle.std.proofs.Common.{◌≡◌, ℕ, ◌+◌, ◌-◌, ◌*◌, ◌^◌, ◌<◌, ◌≤◌, true, false, ltb, leb, List, length, get_or, replicate, pos, Some, None, Ok, sum, count_by, Option, Result, sym, refl, ap, ◌∙◌, subst, ⊎_elim, mul-le-mul, arith}
 use lib.Signed.{lt_z}
-use Rattle.std.proofs.lemmas.Bool.{cases_lt, cond_both, ltb-true, leb-true, leb-false}
+use Rattle.std.proofs.lemmas.Bool.{cases_lt, cond_both, ltb-true, leb-true, leb-false, false≢true}
 use Rattle.std.proofs.lemmas.Bool.Decides.{nat_tests}
 use Rattle.std.proofs.lemmas.List.{get_or_past, get_or-replicate, length-replicate}
 use Rattle.std.proofs.ByRecursion.{All-from_get_or, sum_by_le}
@@ -163,12 +163,12 @@ settle_consistent m t con i =
 
 -- The bid that settles is the one that stands.
 pub settle_stands : (lanes : ℕ) (ps : List ℕ) (row : List (ℕ × ℕ)) (s : Standing) (b : Bid) → bid_after lanes ps row s Settle ≡ Ok b → s ≡ Bidding b
-settle_stands lanes ps row Waiting b e = let z : ◌≡◌ {A = ℕ} 0 1 = cc in absurd (omega arith)
+settle_stands lanes ps row Waiting b e = absurd (false≢true cc)
 settle_stands lanes ps row (Bidding a) b e =
     cond_both {A = Result Bid Refusal} (looked_all row a) _ _ (λ r. r ≡ Ok b → Bidding a ≡ Bidding b)
-    (λ _ q. cc) (λ _ q. let z : ◌≡◌ {A = ℕ} 0 1 = cc in absurd (omega arith)) e
-settle_stands lanes ps row (Served h) b e = let z : ◌≡◌ {A = ℕ} 0 1 = cc in absurd (omega arith)
-settle_stands lanes ps row Out b e = let z : ◌≡◌ {A = ℕ} 0 1 = cc in absurd (omega arith)
+    (λ _ q. cc) (λ _ q. absurd (false≢true cc)) e
+settle_stands lanes ps row (Served h) b e = absurd (false≢true cc)
+settle_stands lanes ps row Out b e = absurd (false≢true cc)
 
 -- ---- no count is large
 

@@ -3,7 +3,9 @@ use Rattle.std.proofs.Common.{◌≡◌, ℕ, zero, suc, ◌+◌, ◌*◌, ◌^�
 use lib.Signed.{lt_z}
 use borrow.Author.Differences.{up, down, lt-true}
 use Rattle.std.specs.List.{AllByRecursion}
-use Rattle.std.proofs.lemmas.Bool.{cases_lt, cond_both, both_ways, leb-true}
+use Rattle.std.proofs.Math.Nat.{le-mul_of_pos_right}
+use Rattle.std.proofs.lemmas.Option.{none-some, same_Some}
+use Rattle.std.proofs.lemmas.Bool.{cases_lt, cond_both, both_ways, leb-true, false≢true}
 use Rattle.std.proofs.lemmas.List.{length-map, get_or-map, get_or_past}
 use Rattle.std.proofs.lemmas.List.Sums.{sum_by-cons, count_by-le-length}
 use Rattle.sources.specs.Meaning.{Meaning, Sound, row_of, worth_in, worth_of}
@@ -21,7 +23,7 @@ use Rattle.auction.specs.Bids.{natural, offer, judged_best}
 use Rattle.auction.specs.Rules.{verdict_in}
 use Rattle.auction.specs.Consistent.{BestSound, BidSound, StandingSound}
 use Rattle.auction.specs.Laws.{Pairing, Slack, given_worth, worth_along, worth, job_served, Done, pairing_of, served, Among, AuctionLaws}
-use Rattle.auction.proofs.Matching.{some_same, none_some, served_within, holder_of, holder_served}
+use Rattle.auction.proofs.Matching.{served_within, holder_of, holder_served}
 use Rattle.auction.proofs.Paid.{price_of, paid, paid_distinct, paid_covers}
 use Rattle.auction.proofs.Nets.{sides, net_is, natural-up}
 use Rattle.auction.proofs.Keeping.{few_awards}
@@ -30,13 +32,13 @@ use Rattle.auction.proofs.Invariant.{StandingFits, Invariant}
 -- ---- the pairing that the standings make
 
 serves : (s : Standing) (j : ℕ) → job_served s ≡ Some j → (h : Held) × (s ≡ Served h) × (h.job ≡ j)
-serves Waiting j e = absurd (none_some e)
-serves (Bidding b) j e = absurd (none_some e)
-serves (Served h) j e = (h, refl, some_same e)
-serves Out j e = absurd (none_some e)
+serves Waiting j e = absurd (none-some _ e)
+serves (Bidding b) j e = absurd (none-some _ e)
+serves (Served h) j e = (h, refl, same_Some _ _ e)
+serves Out j e = absurd (none-some _ e)
 
 paired : (ss : List Standing) (i j : ℕ) → get_or (map job_served ss) i None ≡ Some j → (h : Held) × (get_or ss i Out ≡ Served h) × (h.job ≡ j)
-paired [] i j e = absurd (none_some e)
+paired [] i j e = absurd (none-some _ e)
 paired (s ∷ ss) zero j e = serves s j e
 paired (s ∷ ss) (suc i) j e = paired ss i j e
 
@@ -117,10 +119,6 @@ worthy_times g c low [] h i j = omega arith
 worthy_times g c low (row ∷ rows) h zero j = row_times g c low row h.0 j
 worthy_times g c low (row ∷ rows) h (suc i) j = worthy_times g c low rows h.1 i j
 
-times_pos : (g w : ℕ) → 0 < g → 0 < w → 0 < g * w
-times_pos zero w a b = absurd (omega arith)
-times_pos (suc g) w a b = omega arith
-
 no_more : (g a b d : ℕ) → g * a ≤ g * b + d → d < g → a ≤ b
 no_more g a b d h s = ⊎_elim (λ l. let k : g * suc b ≤ g * a = mul-le-mul_left g l in absurd (omega arith)) (λ l. l) (cases_lt b a)
 
@@ -146,7 +144,7 @@ module _ (m : Meaning) (sound : Sound m) (t : Tally) (law : Invariant m t) where
         let f = subst (StandingFits t.step t.prices (row_of m i)) w.1 (law.fits i (let z = law.consistent.standings_sized in omega arith)) in
         let a = f.worthy in let b = f.worth_is in let q : worth_of m i w.0.job ≡ worth_of m i j = ap (worth_of m i) w.2 in omega (arith, a, b, q);
     apart = λ i k j p q. let v = paired t.standings i j p in let w = paired t.standings k j q in
-        some_same (sym (holder_of m.carriers m.jobs m.ceiling t law.consistent i v.0 v.1) ∙ ap (holder_at t) (v.2 ∙ sym w.2) ∙ holder_of m.carriers m.jobs m.ceiling t law.consistent k w.0 w.1);
+        same_Some _ _ (sym (holder_of m.carriers m.jobs m.ceiling t law.consistent i v.0 v.1) ∙ ap (holder_at t) (v.2 ∙ sym w.2) ∙ holder_of m.carriers m.jobs m.ceiling t law.consistent k w.0 w.1);
   }
 
   valued : worth m (pairing_of t) ≡ sum_by worth_served t.standings
@@ -195,7 +193,7 @@ module _ (m : Meaning) (sound : Sound m) (t : Tally) (law : Invariant m t) where
         sized = pair.sized ∙ sym (ap (λ q. q.carriers) e);
         worthy = λ i j q. let a = pair.worthy i j q in
             let b : worth_of m i j ≡ g * worth_of below i j = ap (λ rs. worth_in (get_or rs i []) j) rows_are ∙ worthy_times g m.ceiling cut below.rows capped i j in
-            let c = times_pos g (worth_of below i j) (omega (arith, big)) a in omega (arith, b, c);
+            let c = le-mul_of_pos_right g a in omega (arith, b, c, big);
         apart = pair.apart;
       }
 
@@ -242,12 +240,12 @@ module _ (m : Meaning) (sound : Sound m) (t : Tally) (law : Invariant m t) where
       pays g =
           cond_both {A = Verdict} (lt_z (pos 0) x.net) _ _ (λ w. w ≡ Awarded a → a.price + b.runner_up ≡ seen + natural x.net + t.step)
           (λ up'. cond_both {A = Verdict} (leb (offer t.step b.runner_up x) (price_at t x.job)) _ _ (λ w. w ≡ Awarded a → a.price + b.runner_up ≡ seen + natural x.net + t.step)
-          (λ _ c. let z : ◌≡◌ {A = ℕ} 0 1 = cc in absurd (omega arith))
+          (λ _ c. absurd (false≢true cc))
           (λ _ c. let k : offer t.step b.runner_up x ≡ a.price = cc in
           let p = lt-true (pos 0) x.net up' in let u = g.low_runner in let z = sides x.net in let o = natural-up x.net in
           let w' : up x.net + seen ≡ x.worth + down x.net = subst (λ y. up y + seen ≡ x.worth + down y) n (net_is x.worth seen) in
           omega (arith, k, p, u, z, o, w')))
-          (λ _ c. let z : ◌≡◌ {A = ℕ} 0 1 = cc in absurd (omega arith))
+          (λ _ c. absurd (false≢true cc))
 
   pub lawful_laws : AuctionLaws m t
   lawful_laws = record {

@@ -13,9 +13,6 @@ use Rattle.auction.proofs.Counted.{one, count_set}
 pub some_same : {A : Type 0} {a b : A} → Some a ≡ Some b → a ≡ b
 some_same e = cc
 
-pub none_some : {A : Type 0} {a : A} → None ≡ Some a → ⊥
-none_some e = let z : ◌≡◌ {A = ℕ} 0 1 = cc in omega arith
-
 -- Who is not served holds no job.
 pub holds_none : (j : ℕ) (s : Standing) → is_served s ≡ false → holds_job j s ≡ false
 holds_none j Waiting e = refl

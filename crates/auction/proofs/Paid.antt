@@ -1,9 +1,9 @@
 -- What a list of jobs costs at a list of prices.
 use Rattle.std.proofs.Common.{◌≡◌, ℕ, zero, suc, ◌+◌, ◌<◌, ◌≤◌, List, [], ◌∷◌, length, get_or, set, Some, None, sum, Option, sym, refl, ap, ◌∙◌, subst, ⊎_elim, arith}
+use Rattle.std.proofs.lemmas.Option.{none-some, same_Some}
 use Rattle.std.proofs.lemmas.Bool.{cases_lt, cases_eq}
 use Rattle.std.proofs.lemmas.List.{get_or-set_same, get_or-set_other, set_past, get_or_past}
 use Rattle.std.proofs.lemmas.List.Sums.{sum_by-set, sum_by-cons}
-use Rattle.auction.proofs.Matching.{some_same, none_some}
 
 abbrev pub price_of : List ℕ → Option ℕ → ℕ
 price_of ps None = 0
@@ -59,7 +59,7 @@ sum_none (p ∷ ps) h = let rest = sum_none ps (λ j. h (suc j)) in let one = h 
 
 -- jobs among which is each with a price above 0 cost as much as all jobs
 pub paid_covers : (js : List (Option ℕ)) (ps : List ℕ) → ((j : ℕ) → 0 < get_or ps j 0 → (a : ℕ) × (get_or js a None ≡ Some j)) → sum ps ≤ paid ps js
-paid_covers [] ps c = let z = sum_none ps (λ j. ⊎_elim (λ l. absurd (none_some (c j l).1)) (λ l. omega arith) (cases_lt 0 (get_or ps j 0))) in omega arith
+paid_covers [] ps c = let z = sum_none ps (λ j. ⊎_elim (λ l. absurd (none-some _ (c j l).1)) (λ l. omega arith) (cases_lt 0 (get_or ps j 0))) in omega arith
 paid_covers (None ∷ js) ps c =
     let rest = paid_covers js ps (λ j l. later (c j l)) in omega arith
   where
@@ -67,7 +67,7 @@ paid_covers (None ∷ js) ps c =
     later {j} w = go w.0 w.1
       where
         go : (a : ℕ) → get_or (None ∷ js) a None ≡ Some j → (a : ℕ) × (get_or js a None ≡ Some j)
-        go zero e = absurd (none_some e)
+        go zero e = absurd (none-some _ e)
         go (suc a) e = (a, e)
 paid_covers (Some k ∷ js) ps c =
     let rest = paid_covers js (set ps k 0) cover in
@@ -76,7 +76,7 @@ paid_covers (Some k ∷ js) ps c =
     omega arith
   where
     later : (j : ℕ) → (j ≡ k → ⊥) → (a : ℕ) → get_or (Some k ∷ js) a None ≡ Some j → (a : ℕ) × (get_or js a None ≡ Some j)
-    later j n zero e = absurd (n (sym (some_same e)))
+    later j n zero e = absurd (n (sym (same_Some _ _ e)))
     later j n (suc a) e = (a, e)
 
     cover : (j : ℕ) → 0 < get_or (set ps k 0) j 0 → (a : ℕ) × (get_or js a None ≡ Some j)

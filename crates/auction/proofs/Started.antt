@@ -1,5 +1,6 @@
 -- A hall is started exactly if a start was accepted.
-use Rattle.std.proofs.Common.{◌≡◌, Bool, true, false, ◌||◌, List, [], ◌∷◌, is_some, is_ok, Some, None, Ok, Err, Option, Result, refl, ap, ◌∙◌}
+use Rattle.std.proofs.Common.{◌≡◌, false, ◌||◌, List, [], ◌∷◌, is_some, is_ok, Some, None, Ok, Err, Option, Result, refl, sym, ap, ◌∙◌}
+use Rattle.std.proofs.Math.Bool.{or-false, or-true, or_assoc}
 use Rattle.sources.specs.Meaning.{Meaning}
 use Rattle.refusals.specs.declared.Refusal.{Refusal}
 use Rattle.auction.specs.declared.call.Call.{Call}
@@ -8,21 +9,9 @@ use Rattle.auction.specs.Tally.{Tally}
 use Rattle.auction.specs.Rules.{start_answer, start_tally_by, opened, once}
 use Rattle.auction.specs.Calls.{tally_by, tally_from, tally_after, is_start, has_start}
 
-or_false : (a : Bool) → a ≡ (a || false)
-or_false true = refl
-or_false false = refl
-
-or_true : (a : Bool) → true ≡ (a || true)
-or_true true = refl
-or_true false = refl
-
-or_assoc : (a b c : Bool) → ((a || b) || c) ≡ (a || (b || c))
-or_assoc true b c = refl
-or_assoc false b c = refl
-
 start_some : (r : Result (Unit {0}) Refusal) (new : Tally) (o : Option Tally) → is_some (start_tally_by r new o) ≡ (is_some o || is_ok r)
-start_some (Ok x) new o = or_true (is_some o)
-start_some (Err e) new o = or_false (is_some o)
+start_some (Ok x) new o = sym (or-true (is_some o))
+start_some (Err e) new o = sym (or-false (is_some o))
 
 once_some : (f : Tally → Tally) (o : Option Tally) → is_some (once f o) ≡ (is_some o || false)
 once_some f None = refl
@@ -35,15 +24,15 @@ call_some m o (Summon i) = once_some _ o
 call_some m o (Look i) = once_some _ o
 call_some m o (Settle i) = once_some _ o
 call_some m o (Run depth budget) = once_some _ o
-call_some m o (PriceOf j) = or_false (is_some o)
-call_some m o (HolderOf j) = or_false (is_some o)
-call_some m o (StandingOf i) = or_false (is_some o)
-call_some m o TotalWorth = or_false (is_some o)
-call_some m o AllCounts = or_false (is_some o)
+call_some m o (PriceOf j) = sym (or-false (is_some o))
+call_some m o (HolderOf j) = sym (or-false (is_some o))
+call_some m o (StandingOf i) = sym (or-false (is_some o))
+call_some m o TotalWorth = sym (or-false (is_some o))
+call_some m o AllCounts = sym (or-false (is_some o))
 
 from_some : (m : Meaning) (o : Option Tally) (calls : List Call) → is_some (tally_from m o calls) ≡ (is_some o || has_start m calls)
 unfolding tally_from
-from_some m o [] = or_false (is_some o)
+from_some m o [] = sym (or-false (is_some o))
 from_some m o (c ∷ calls) =
     from_some m (tally_by m o c) calls ∙ ap (λ z. (z || has_start m calls)) (call_some m o c) ∙ or_assoc (is_some o) (is_start m c) (has_start m calls)
 

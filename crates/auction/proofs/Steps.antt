@@ -3,7 +3,7 @@ use Rattle.std.proofs.Common.{◌≡◌, ℕ, zero, suc, ◌+◌, ◌-◌, ◌*�
 use lib.Signed.{lt_z}
 use Rattle.std.specs.Option.{option_to_list}
 use Rattle.std.specs.List.{AllByRecursion}
-use Rattle.std.proofs.lemmas.Bool.{cases_lt, cond_both, cond-true, eq-eqb, lt-ltb, leb-true, le-leb}
+use Rattle.std.proofs.lemmas.Bool.{cases_lt, cond_both, cond-true, eq-eqb, lt-ltb, leb-true, le-leb, false≢true}
 use Rattle.std.proofs.lemmas.List.{set-get_or, length-take, length-drop, append-nil}
 use Rattle.std.proofs.lemmas.List.Sums.{sum_by-cons}
 use Rattle.sources.specs.Meaning.{Meaning, Sound, row_of}
@@ -403,7 +403,7 @@ module _ (m : Meaning) where
         (cases_lt 0 (length r.line + length r.flight))
 
     not_done : (e : Ending) → e ≡ Spent → e ≡ Done → ⊥
-    not_done e p q = let z : ◌≡◌ {A = ℕ} 0 1 = cc in omega arith
+    not_done e p q = false≢true cc
 
     pub run_reports : (budget : ℕ) (r : RunState) → r.steps ≡ 0 → Consistent m.carriers m.jobs m.ceiling r.tally → Ordered m r →
         let q = many_steps m depth budget r in Reports budget r.tally q.tally (run_report r.tally q)

@@ -1,7 +1,7 @@
 -- A bid that no award came between is never stale: prices move by awards alone, so the best of such a bid costs what it did when it was seen.
 use Rattle.std.proofs.Common.{◌≡◌, ℕ, ◌<◌, ◌≤◌, Bool, true, false, ltb, leb, List, [], ◌∷◌, ◌++◌, pos, is_ok, Some, None, Ok, Err, Option, Result, sym, refl, ap, ◌∙◌, subst, arith}
 use lib.Signed.{lt_z}
-use Rattle.std.proofs.lemmas.Bool.{both_ways, cond_both, ltb-true, or_parts}
+use Rattle.std.proofs.lemmas.Bool.{both_ways, cond_both, ltb-true, or_parts, false≢true}
 use Rattle.refusals.specs.declared.Refusal.{Refusal}
 use Rattle.sources.specs.Meaning.{Meaning, Sound, row_of}
 use Rattle.auction.specs.declared.standing.Act.{Act}
@@ -114,22 +114,22 @@ module _ (m : Meaning) (sound : Sound m) (n i : ℕ) where
   not_stale : (t : Tally) → Invariant m t → is_risen t.prices (standing_at t i) ≡ false → settle_answer i m (Some t) ≡ Ok Stale → ⊥
   unfolding bid_at
   not_stale t inv quiet =
-      cond_both {A = Result Bid Refusal} (ltb i m.carriers) _ _ (λ r. verdict_from t r ≡ Ok Stale → ⊥) (λ _. ends _ refl) (λ _ e. let z : ◌≡◌ {A = ℕ} 0 1 = cc in omega arith)
+      cond_both {A = Result Bid Refusal} (ltb i m.carriers) _ _ (λ r. verdict_from t r ≡ Ok Stale → ⊥) (λ _. ends _ refl) (λ _ e. false≢true cc)
     where
       judged : (b : Bid) → standing_at t i ≡ Bidding b → (o : Option Best) → b.best ≡ o → judged_best t.step t.prices t.holders b.runner_up o ≡ Stale → ⊥
-      judged b e None q v = let z : ◌≡◌ {A = ℕ} 0 1 = cc in omega arith
+      judged b e None q v = false≢true cc
       judged b e (Some x) q v =
           let g = subst (BidSound m.jobs m.ceiling b.runner_up) q (subst (StandingSound m.jobs m.ceiling) e (inv.consistent.sound i)) in
           cond_both {A = Verdict} (lt_z (pos 0) x.net) _ _ (λ w. w ≡ Stale → ⊥)
           (λ above. cond_both {A = Verdict} (leb (offer t.step b.runner_up x) (price_at t x.job)) _ _ (λ w. w ≡ Stale → ⊥)
           (λ low _. both_ways (best_risen t.prices b.best) (sym (ap (is_risen t.prices) e) ∙ quiet)
           (ap (best_risen t.prices) q ∙ stale_risen t.prices t.step b.runner_up x inv.consistent.limits.some_step g.low_runner above low))
-          (λ _ c. let z : ◌≡◌ {A = ℕ} 0 1 = cc in omega arith))
-          (λ _ c. let z : ◌≡◌ {A = ℕ} 0 1 = cc in omega arith) v
+          (λ _ c. false≢true cc))
+          (λ _ c. false≢true cc) v
 
       ends : (r : Result Bid Refusal) → bid_after t.lanes t.prices (row_of m i) (standing_at t i) Settle ≡ r → verdict_from t r ≡ Ok Stale → ⊥
       ends (Ok b) e v = judged b (settle_stands t.lanes t.prices (row_of m i) (standing_at t i) b e) b.best refl (let z : verdict_in t b ≡ Stale = cc in z)
-      ends (Err x) e v = let z : ◌≡◌ {A = ℕ} 0 1 = cc in omega arith
+      ends (Err x) e v = false≢true cc
 
 idle_unrisen : (ps : List ℕ) (s : Standing) → is_bidding s ≡ false → is_risen ps s ≡ false
 idle_unrisen ps Waiting e = refl

@@ -2,8 +2,8 @@
 #![tactic(auto)]
 
 use anyhow::anyhow;
+use auction::call::Call;
 use hall::hall::Hall;
-use refusals::Refusal;
 use sources::form::{Entry, Heading};
 use sources::sheet::Sheet;
 use sources::source::Source;
@@ -24,75 +24,55 @@ const WORTHS: [Entry; 9] = [
 
 const STARTS: [usize; 4] = [0, 3, 6, 9];
 
-fn tell(rt: &impl Print, res: Result<(), Refusal>) -> io::Result<()> {
-    match res {
-        Ok(()) => println!(rt; "accepted"),
-        Err(refusal) => println!(rt; "refused {refusal}"),
+// How an auction starts here.
+const START: Call = Call::Start { step: 1, lanes: 4 };
+
+// Makes a call, and prints it with what it tells.
+fn make<S: Source>(rt: &impl Print, hall: &mut Hall<S>, call: Call) -> io::Result<()> {
+    match call {
+        Call::Start { step, lanes } => print!(rt; "start, step {step}, lanes {lanes}: ")?,
+        _ => print!(rt; "{call}: ")?,
     }
-}
-
-fn start<S: Source>(
-    rt: &impl Print,
-    hall: &mut Hall<S>,
-    step: u64,
-    lanes: usize,
-) -> io::Result<()> {
-    print!(rt; "start, step {step}, lanes {lanes}: ")?;
-    tell(rt, hall.start(step, lanes))
-}
-
-fn summon<S: Source>(rt: &impl Print, hall: &mut Hall<S>, carrier: usize) -> io::Result<()> {
-    print!(rt; "summon {carrier}: ")?;
-    tell(rt, hall.summon(carrier))
-}
-
-fn look<S: Source>(rt: &impl Print, hall: &mut Hall<S>, carrier: usize) -> io::Result<()> {
-    print!(rt; "look {carrier}: ")?;
-    tell(rt, hall.look(carrier))
-}
-
-fn settle<S: Source>(rt: &impl Print, hall: &mut Hall<S>, carrier: usize) -> io::Result<()> {
-    print!(rt; "settle {carrier}: ")?;
-    match hall.settle(carrier) {
-        Ok(verdict) => println!(rt; "{verdict}"),
+    match hall.perform(call) {
+        Ok(answer) => println!(rt; "{answer}"),
         Err(refusal) => println!(rt; "refused {refusal}"),
     }
 }
 
 // A whole bid, with nothing in between.
 fn bid<S: Source>(rt: &impl Print, hall: &mut Hall<S>, carrier: usize) -> io::Result<()> {
-    summon(rt, hall, carrier)?;
-    look(rt, hall, carrier)?;
-    settle(rt, hall, carrier)
+    make(rt, hall, Call::Summon(carrier))?;
+    make(rt, hall, Call::Look(carrier))?;
+    make(rt, hall, Call::Settle(carrier))
 }
 
 // One carrier after the other.
 fn walk_in_turn<S: Source>(rt: &impl Print, hall: &mut Hall<S>) -> io::Result<()> {
-    start(rt, hall, 1, 4)?;
+    make(rt, hall, START)?;
     for carrier in [0, 1, 2, 0] {
         bid(rt, hall, carrier)?;
     }
-    settle(rt, hall, 0)
+    make(rt, hall, Call::Settle(0))
 }
 
 // All three look before any settles: the last bid, 7, meets a price of 8.
 fn walk_together<S: Source>(rt: &impl Print, hall: &mut Hall<S>) -> io::Result<()> {
-    start(rt, hall, 1, 4)?;
+    make(rt, hall, START)?;
     for carrier in 0..3 {
-        summon(rt, hall, carrier)?;
+        make(rt, hall, Call::Summon(carrier))?;
     }
-    settle(rt, hall, 0)?;
+    make(rt, hall, Call::Settle(0))?;
     for carrier in 0..3 {
-        look(rt, hall, carrier)?;
+        make(rt, hall, Call::Look(carrier))?;
     }
-    look(rt, hall, 0)?;
+    make(rt, hall, Call::Look(0))?;
     for carrier in 0..3 {
-        settle(rt, hall, carrier)?;
+        make(rt, hall, Call::Settle(carrier))?;
     }
     for carrier in [0, 2] {
         bid(rt, hall, carrier)?;
     }
-    summon(rt, hall, 3)
+    make(rt, hall, Call::Summon(3))
 }
 
 fn main(rt: HostRuntime) -> anyhow::Result<()> {
@@ -107,8 +87,8 @@ fn main(rt: HostRuntime) -> anyhow::Result<()> {
         return Err(anyhow!("the sheet was refused"));
     }
     let mut hall = Hall::new(sheet);
-    summon(&rt, &mut hall, 0)?;
-    start(&rt, &mut hall, 0, 4)?;
+    make(&rt, &mut hall, Call::Summon(0))?;
+    make(&rt, &mut hall, Call::Start { step: 0, lanes: 4 })?;
     walk_in_turn(&rt, &mut hall)?;
     walk_together(&rt, &mut hall)?;
     Ok(())
