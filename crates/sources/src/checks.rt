@@ -59,6 +59,7 @@ fn entry_refusal(heading: Heading, starts: &[usize], entries: &[Entry]) -> Optio
 }
 
 // What filling answers: the counts are checked, then the row starts, then every entry of every row in order.
+// The heading and the tables come one by one: the struct of the three is `Sheet`, once they are checked.
 pub(crate) fn verdict(heading: Heading, starts: &[usize], entries: &[Entry]) -> Result<(), Refusal>
     ensures { result ≡ fill_verdict heading starts.now entries.now }
 {
