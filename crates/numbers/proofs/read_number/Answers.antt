@@ -35,6 +35,16 @@ returns-then-is_padded c =
     ∙ after_padded k c.loop-k.value b (drop (k + 1) (drop at bytes)) (sym c.is_padded.ensures ∙ c.if-is_padded.true)) in
     record { value = v; exact = exactly bytes at (Err c.at.result) c.type_inv.bytes v }
 
+pub overflow_mul-result : goal.overflow_mul-result
+overflow_mul-result c =
+    let k6 = few c.args.bytes.now c.groups_from-groups.result.now c.args.at c.groups_from-groups.ensures c.loop-k.k c.loop-k-test.true in
+    omega (arith, room c.from-group.result c.loop-k.scale c.loop-k.k c.if-group-lt128.true c.loop-k.invariant.0 (omega arith))
+
+pub overflow_add-result : goal.overflow_add-result
+overflow_add-result c =
+    let k6 = few c.args.bytes.now c.groups_from-groups.result.now c.args.at c.groups_from-groups.ensures c.loop-k.k c.loop-k-test.true in
+    omega (arith, room c.from-group.result c.loop-k.scale c.loop-k.k c.if-group-lt128.true c.loop-k.invariant.0 (omega arith), pow_le c.loop-k.k (omega arith), c.loop-k.invariant.0, c.loop-k.invariant.1)
+
 pub returns-then-group-lt128 : goal.returns-then-group-lt128
 returns-then-group-lt128 c =
     let bytes = c.args.bytes.now in
@@ -60,6 +70,16 @@ pub overflow_mul-value : goal.overflow_mul-value
 overflow_mul-value c =
     let k6 = few c.args.bytes.now c.groups_from-groups.result.now c.args.at c.groups_from-groups.ensures c.loop-k.k c.loop-k-test.true in
     omega (arith, room-more c.from-group.result c.loop-k.scale c.loop-k.k (omega (arith, c.from-group.ensures, c.type_inv.groups c.loop-k.k)) c.loop-k.invariant.0 (omega arith))
+
+pub overflow_add-value : goal.overflow_add-value
+overflow_add-value c =
+    let k6 = few c.args.bytes.now c.groups_from-groups.result.now c.args.at c.groups_from-groups.ensures c.loop-k.k c.loop-k-test.true in
+    omega (arith, room-more c.from-group.result c.loop-k.scale c.loop-k.k (omega (arith, c.from-group.ensures, c.type_inv.groups c.loop-k.k)) c.loop-k.invariant.0 (omega arith), pow_le c.loop-k.k (omega arith), c.loop-k.invariant.0, c.loop-k.invariant.1)
+
+pub overflow_mul-scale : goal.overflow_mul-scale
+overflow_mul-scale c =
+    let k6 = few c.args.bytes.now c.groups_from-groups.result.now c.args.at c.groups_from-groups.ensures c.loop-k.k c.loop-k-test.true in
+    omega (arith, pow_le c.loop-k.k (omega arith), c.loop-k.invariant.0)
 
 pub loop-k-preserved : goal.loop-k-preserved
 loop-k-preserved c =
