@@ -140,9 +140,7 @@ fn filled<'a>(
     let front = starts
         .get(0..heading.carriers.saturating_add(1))
         .ok_or(Fault::bare(Refusal::TooShort))?;
-    Sheet::new()
-        .fill(heading, front, entries)
-        .map_err(Fault::bare)?;
+    Sheet::new().fill(heading, front, entries)?;
     Ok(heading)
 }
 
@@ -152,9 +150,7 @@ fn load_by_states(
     starts: &mut [usize],
     entries: &mut [Entry],
 ) -> Result<Heading, Fault> {
-    let mut loader = Bare::new(bytes)
-        .read_heading(starts)
-        .map_err(|back| back.fault)?;
+    let mut loader = Bare::new(bytes).read_heading(starts)?;
     for _ in 0..129u8 {
         match loader.read_row(starts, entries) {
             Ok(()) => {}
@@ -162,7 +158,7 @@ fn load_by_states(
             Err(fault) => return Err(fault),
         }
     }
-    let closed = loader.close().map_err(|back| back.fault)?;
+    let closed = loader.close()?;
     filled(closed.heading(), starts, entries)
 }
 

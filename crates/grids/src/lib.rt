@@ -139,3 +139,41 @@ fn pairing_worth(rows: &[[u64; 4]], number: u32, mut taken: [bool; 4]) -> Option
     taken[job] = true;
     Some(pairing_worth(others, number / 5, taken)?.saturating_add(row[job]))
 }
+
+#[cfg(test)]
+mod tests {
+    use super::*;
+    use crate::groups::push_number;
+    use std::test::Fail;
+
+    const TABLE: Grid = Grid {
+        carriers: 3,
+        jobs: 3,
+        ceiling: 14,
+        worths: [[5, 10, 1, 0], [4, 11, 3, 0], [5, 14, 8, 0], [0; 4]],
+    };
+
+    #[test]
+    fn the_best_of_a_table(rt: HostRuntime) {
+        assert_eq!(rt; TABLE.worth(1, 2), 3);
+        assert_eq!(rt; TABLE.worth(4, 0), 0);
+        assert_eq!(rt; TABLE.best(), 24);
+        assert_eq!(rt; TABLE.times(2).best(), 48);
+        assert_eq!(rt; TABLE.only(&[true, false, true, false]).best(), 19);
+    }
+
+    #[test]
+    fn a_drawn_grid_has_a_best_pairing(rt: HostRuntime) {
+        let grid = Grid::draw(&mut Draw::new(1), 20);
+        assert!(rt; grid.best() <= 80);
+    }
+
+    #[test]
+    fn a_number_of_two_groups(rt: HostRuntime) -> Result<(), Fail> {
+        let mut bytes = Vec::new(rt.alloc());
+        push_number(&mut bytes, 5)?;
+        push_number(&mut bytes, 300)?;
+        assert_eq!(rt; bytes.as_slice(), [5, 172, 2].as_slice());
+        Ok(())
+    }
+}
