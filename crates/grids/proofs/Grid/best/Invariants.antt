@@ -1,10 +1,9 @@
-use Rattle.std.proofs.Common.{ℕ, ◌<◌, ◌≤◌}
+use Rattle.std.proofs.Common.{◌≡◌, ℕ, ◌<◌, ◌≤◌, ◌⊎◌}
 use Rattle.grids.specs.Worths.{worth_numbered}
-use Rattle.grids.proofs.Best.{Reached}
 use Rattle.grids.proofs.Grid.best.Given as goal
 
 abbrev pub invariant-loop-number : goal.invariant-loop-number
 invariant-loop-number l = record {
-  reached : Reached (worth_numbered l.self.worths) l.number l.most;
+  reached : (l.most ≡ 0) ⊎ ((n : ℕ) × (n < l.number) × (worth_numbered l.self.worths n ≡ l.most));
   above : (n : ℕ) → n < l.number → worth_numbered l.self.worths n ≤ l.most;
 }
