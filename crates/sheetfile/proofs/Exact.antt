@@ -1,10 +1,11 @@
 -- What is read is a sheet file, and each sheet file is read.
-use Rattle.std.proofs.Common.{◌≡◌, ℕ, zero, suc, ◌+◌, ◌*◌, ◌^◌, ◌<◌, ◌≤◌, cond, ◌&&◌, eqb, ltb, leb, List, [], ◌∷◌, ◌++◌, length, get_or, drop, Ok, Err, sym, refl, ap, ◌∙◌, subst, arith, w8, Fits}
+use Rattle.std.proofs.Common.{◌≡◌, ℕ, zero, suc, ◌+◌, ◌*◌, ◌^◌, ◌<◌, ◌≤◌, Bool, true, cond, ◌&&◌, eqb, ltb, leb, List, [], ◌∷◌, ◌++◌, length, get_or, drop, Ok, Err, sym, refl, ap, ◌∙◌, subst, arith, w8, Fits}
 use Rattle.std.proofs.lemmas.List.{append_assoc, append-nil, drop_all, drop_at, drop-drop, length-drop}
 use Rattle.std.proofs.lemmas.Result.{IfOk-at_ok}
 use Rattle.std.proofs.lemmas.Bool.{eq-eqb, eqb-true, le-leb, leb-true}
 use Rattle.std.specs.List.{flat_map, AllByRecursion}
 use Rattle.refusals.specs.Faults.{fault_at, fault_of}
+use Rattle.refusals.specs.declared.Fault.{Fault}
 use Rattle.refusals.specs.declared.Refusal.TheVariants.{BytesFollow, CountsOutside, JobOutOfOrder, TooShort, TotalDiffers, WorthOutside}
 use Rattle.numbers.proofs.Exact.{exactly, reads}
 use Rattle.numbers.specs.Groups.{encoded}
@@ -14,7 +15,7 @@ use Rattle.sources.specs.Meaning.{Meaning}
 use Rattle.sources.specs.Tables.{heading_of}
 use Rattle.sources.specs.declared.form.Heading.{Heading}
 use Rattle.sheetfile.specs.Layout.{LongEnough, Row, SheetFile, entries_in, entry_bytes, heading_bytes, meaning_of, row_bytes}
-use Rattle.sheetfile.specs.Reading.{closed_at, count_from, entries_from, entry_from, heading_from, heading_in, job_from, loaded, row_from, row_in, rows_from, worth_from}
+use Rattle.sheetfile.specs.Reading.{closed_at, count_from, entries_from, entry_from, heading_from, heading_in, job_from, loaded, number_from, row_from, row_in, rows_from, worth_from}
 use Rattle.sheetfile.specs.Steps.{and_then, prefixed, room_for}
 use Rattle.sheetfile.proofs.Bounds.{EntryIn, HeadingIn, RowIn, bounded, fillable}
 use Rattle.sheetfile.proofs.Loading.{file}
@@ -30,13 +31,14 @@ module _ (bs : List ℕ) (typed : (i : ℕ) → Fits w8 (get_or bs i 0)) where
       let b = IfOk-at_ok (λ (p : ℕ × ℕ). Begins bs at p.0 p.1) is (exactly bs at (read_at bs at) typed refl).one_form in
       (b.bytes_are, b.small)
 
+  passed_read : (test : ℕ → Bool) (e : Fault) (at : ℕ) (x : ℕ × ℕ) → number_from bs test e at ≡ Ok x → (drop at bs ≡ encoded x.0 ++ drop x.1 bs) × (test x.0 ≡ true)
+  passed_read test e at x is =
+      let f = followed (read_at bs at) (λ n. cond (test n.0) (Ok n) (Err e)) x is in
+      let t = tested (test f.0.0) (Ok f.0) e x f.2 in
+      subst (λ (y : ℕ × ℕ). (drop at bs ≡ encoded y.0 ++ drop y.1 bs) × (test y.0 ≡ true)) (ok_same f.0 x t.1) ((number_read at f.0 f.1).0, t.0)
+
   count_read : (low high at : ℕ) (x : ℕ × ℕ) → count_from bs low high at ≡ Ok x → (drop at bs ≡ encoded x.0 ++ drop x.1 bs) × (low ≤ x.0) × (x.0 ≤ high)
-  count_read low high at x is =
-      let f = followed (read_at bs at) (λ n. cond (leb low n.0 && leb n.0 high) (Ok n) (Err (fault_of CountsOutside))) x is in
-      let t = tested (leb low f.0.0 && leb f.0.0 high) (Ok f.0) (fault_of CountsOutside) x f.2 in
-      let b = between low f.0.0 high t.0 in
-      subst (λ (y : ℕ × ℕ). (drop at bs ≡ encoded y.0 ++ drop y.1 bs) × (low ≤ y.0) × (y.0 ≤ high)) (ok_same f.0 x t.1)
-      ((number_read at f.0 f.1).0, b.0, b.1)
+  count_read low high at x is = let p = passed_read (λ n. leb low n && leb n high) (fault_of CountsOutside) at x is in let b = between low x.0 high p.1 in (p.0, b.0, b.1)
 
   heading_read : (at : ℕ) (x : Heading × ℕ) → heading_from bs at ≡ Ok x → (drop at bs ≡ heading_bytes x.0 ++ drop x.1 bs) × HeadingIn x.0
   heading_read at x is =
@@ -53,20 +55,10 @@ module _ (bs : List ℕ) (typed : (i : ℕ) → Fits w8 (get_or bs i 0)) where
       )
 
   job_read : (h : Heading) (low at : ℕ) (x : ℕ × ℕ) → job_from bs h low at ≡ Ok x → (drop at bs ≡ encoded x.0 ++ drop x.1 bs) × (low ≤ x.0) × (x.0 < h.jobs)
-  job_read h low at x is =
-      let f = followed (read_at bs at) (λ j. cond (leb low j.0 && ltb j.0 h.jobs) (Ok j) (Err (fault_at JobOutOfOrder at))) x is in
-      let t = tested (leb low f.0.0 && ltb f.0.0 h.jobs) (Ok f.0) (fault_at JobOutOfOrder at) x f.2 in
-      let b = below low f.0.0 h.jobs t.0 in
-      subst (λ (y : ℕ × ℕ). (drop at bs ≡ encoded y.0 ++ drop y.1 bs) × (low ≤ y.0) × (y.0 < h.jobs)) (ok_same f.0 x t.1)
-      ((number_read at f.0 f.1).0, b.0, b.1)
+  job_read h low at x is = let p = passed_read (λ n. leb low n && ltb n h.jobs) (fault_at JobOutOfOrder at) at x is in let b = below low x.0 h.jobs p.1 in (p.0, b.0, b.1)
 
   worth_read : (h : Heading) (at : ℕ) (x : ℕ × ℕ) → worth_from bs h at ≡ Ok x → (drop at bs ≡ encoded x.0 ++ drop x.1 bs) × (1 ≤ x.0) × (x.0 ≤ h.ceiling)
-  worth_read h at x is =
-      let f = followed (read_at bs at) (λ w. cond (leb 1 w.0 && leb w.0 h.ceiling) (Ok w) (Err (fault_at WorthOutside at))) x is in
-      let t = tested (leb 1 f.0.0 && leb f.0.0 h.ceiling) (Ok f.0) (fault_at WorthOutside at) x f.2 in
-      let b = between 1 f.0.0 h.ceiling t.0 in
-      subst (λ (y : ℕ × ℕ). (drop at bs ≡ encoded y.0 ++ drop y.1 bs) × (1 ≤ y.0) × (y.0 ≤ h.ceiling)) (ok_same f.0 x t.1)
-      ((number_read at f.0 f.1).0, b.0, b.1)
+  worth_read h at x is = let p = passed_read (λ n. leb 1 n && leb n h.ceiling) (fault_at WorthOutside at) at x is in let b = between 1 x.0 h.ceiling p.1 in (p.0, b.0, b.1)
 
   entry_read : (h : Heading) (low at : ℕ) (x : (ℕ × ℕ) × ℕ) → entry_from bs h low at ≡ Ok x → (drop at bs ≡ entry_bytes x.0 ++ drop x.1 bs) × EntryIn h low x.0
   entry_read h low at x is =
@@ -156,20 +148,19 @@ module _ (bs : List ℕ) where
   number_back at n rest small e =
       (at + length (encoded n), reads bs at n rest small e, sym (drop-drop (length (encoded n)) at bs) ∙ ap (drop (length (encoded n))) e ∙ drop_at (encoded n) rest (length (encoded n)) refl)
 
+  passed_back : (test : ℕ → Bool) (e : Fault) (at n : ℕ) (rest : List ℕ) → test n ≡ true → n < 2 ^ 42 → drop at bs ≡ encoded n ++ rest → (next : ℕ) × (number_from bs test e at ≡ Ok (n, next)) × (drop next bs ≡ rest)
+  passed_back test e at n rest passes small is =
+      let p = number_back at n rest small is in
+      (p.0, follows (read_at bs at) (λ n. cond (test n.0) (Ok n) (Err e)) (n, p.0) (Ok (n, p.0)) p.1 (tests (test n) (Ok (n, p.0)) (Err e) passes), p.2)
+
   count_back : (low high at n : ℕ) (rest : List ℕ) → low ≤ n → n ≤ high → high < 2 ^ 42 → drop at bs ≡ encoded n ++ rest → (next : ℕ) × (count_from bs low high at ≡ Ok (n, next)) × (drop next bs ≡ rest)
-  count_back low high at n rest a b c e =
-      let p = number_back at n rest (omega arith) e in
-      (p.0, follows (read_at bs at) (λ n. cond (leb low n.0 && leb n.0 high) (Ok n) (Err (fault_of CountsOutside))) (n, p.0) (Ok (n, p.0)) p.1 (tests (leb low n && leb n high) (Ok (n, p.0)) (Err (fault_of CountsOutside)) (from-between low n high a b)), p.2)
+  count_back low high at n rest a b c is = passed_back (λ n. leb low n && leb n high) (fault_of CountsOutside) at n rest (from-between low n high a b) (omega arith) is
 
   job_back : (h : Heading) (low at n : ℕ) (rest : List ℕ) → low ≤ n → n < h.jobs → h.jobs ≤ 256 → drop at bs ≡ encoded n ++ rest → (next : ℕ) × (job_from bs h low at ≡ Ok (n, next)) × (drop next bs ≡ rest)
-  job_back h low at n rest a b c e =
-      let p = number_back at n rest (omega arith) e in
-      (p.0, follows (read_at bs at) (λ j. cond (leb low j.0 && ltb j.0 h.jobs) (Ok j) (Err (fault_at JobOutOfOrder at))) (n, p.0) (Ok (n, p.0)) p.1 (tests (leb low n && ltb n h.jobs) (Ok (n, p.0)) (Err (fault_at JobOutOfOrder at)) (from_below low n h.jobs a b)), p.2)
+  job_back h low at n rest a b c is = passed_back (λ n. leb low n && ltb n h.jobs) (fault_at JobOutOfOrder at) at n rest (from_below low n h.jobs a b) (omega arith) is
 
   worth_back : (h : Heading) (at n : ℕ) (rest : List ℕ) → 1 ≤ n → n ≤ h.ceiling → h.ceiling ≤ 2 ^ 36 → drop at bs ≡ encoded n ++ rest → (next : ℕ) × (worth_from bs h at ≡ Ok (n, next)) × (drop next bs ≡ rest)
-  worth_back h at n rest a b c e =
-      let p = number_back at n rest (omega arith) e in
-      (p.0, follows (read_at bs at) (λ w. cond (leb 1 w.0 && leb w.0 h.ceiling) (Ok w) (Err (fault_at WorthOutside at))) (n, p.0) (Ok (n, p.0)) p.1 (tests (leb 1 n && leb n h.ceiling) (Ok (n, p.0)) (Err (fault_at WorthOutside at)) (from-between 1 n h.ceiling a b)), p.2)
+  worth_back h at n rest a b c is = passed_back (λ n. leb 1 n && leb n h.ceiling) (fault_at WorthOutside at) at n rest (from-between 1 n h.ceiling a b) (omega arith) is
 
   heading_back : (at : ℕ) (h : Heading) (rest : List ℕ) → HeadingIn h → drop at bs ≡ heading_bytes h ++ rest → (next : ℕ) × (heading_from bs at ≡ Ok (h, next)) × (drop next bs ≡ rest)
   heading_back at h rest good e =

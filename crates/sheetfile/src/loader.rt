@@ -122,7 +122,7 @@ impl<'a> Headed<'a> {
                 fault: Fault::bare(Refusal::RowsMissing),
             });
         }
-        // By match, as in read_heading.
+        // By match: the closure of a map_err moves the loader, and would need a contract of its own.
         match self.reader.total(self.used) {
             Err(fault) => Err(Refused {
                 loader: self,
