@@ -51,6 +51,7 @@ fn play_table<const N: usize>(calls: [Call; N]) -> [Result<Answer, Refusal>; N]
 }
 
 // Depth 1: one carrier bids at a time.
+#[tactic(auto, using(crate::proofs::Played::one_by_one_played))]
 pub fn one_by_one() -> [Result<Answer, Refusal>; 19]
     ensures value { result ≡ answers_in one_by_one }
     ensures worked { Plays table one_by_one }
@@ -93,6 +94,7 @@ pub fn one_by_one() -> [Result<Answer, Refusal>; 19]
 }
 
 // Depth 3: three carriers bid, and one bid turns stale.
+#[tactic(auto, using(crate::proofs::Played::three_in_flight_played))]
 pub fn three_in_flight() -> [Result<Answer, Refusal>; 16]
     ensures value { result ≡ answers_in three_in_flight }
     ensures worked { Plays table three_in_flight }
@@ -165,6 +167,7 @@ fn one_job(worth: u64) -> [Result<Answer, Refusal>; 10]
 }
 
 // Worth 3 at a price of 6.
+#[tactic(auto, using(crate::proofs::Played::net_below_played))]
 pub fn net_below() -> [Result<Answer, Refusal>; 10]
     ensures value { result ≡ answers_in net_below }
     ensures worked { Plays (one_job 3) net_below }
@@ -173,6 +176,7 @@ pub fn net_below() -> [Result<Answer, Refusal>; 10]
 }
 
 // Worth 6 at a price of 6.
+#[tactic(auto, using(crate::proofs::Played::net_zero_played))]
 pub fn net_zero() -> [Result<Answer, Refusal>; 10]
     ensures value { result ≡ answers_in net_zero }
     ensures worked { Plays (one_job 6) net_zero }
@@ -181,6 +185,7 @@ pub fn net_zero() -> [Result<Answer, Refusal>; 10]
 }
 
 // Worth 7 at a price of 6.
+#[tactic(auto, using(crate::proofs::Played::net_above_played))]
 pub fn net_above() -> [Result<Answer, Refusal>; 10]
     ensures value { result ≡ answers_in net_above }
     ensures worked { Plays (one_job 7) net_above }
@@ -189,6 +194,7 @@ pub fn net_above() -> [Result<Answer, Refusal>; 10]
 }
 
 // Two jobs of worth 9 for one carrier.
+#[tactic(auto, using(crate::proofs::Played::smaller_job_played))]
 pub fn smaller_job() -> [Result<Answer, Refusal>; 5]
     ensures value { result ≡ answers_in smaller_job }
     ensures worked { Plays two_alike smaller_job }
@@ -213,6 +219,7 @@ pub fn smaller_job() -> [Result<Answer, Refusal>; 5]
 }
 
 // Rows 10 9 and 10 1, with a step of 10.
+#[tactic(auto, using(crate::proofs::Played::wide_step_played, crate::proofs::Played::wide_rival))]
 pub fn wide_step() -> [Result<Answer, Refusal>; 7]
     ensures value { result ≡ answers_in wide_step }
     ensures worked { Plays wide wide_step }
@@ -245,6 +252,7 @@ pub fn wide_step() -> [Result<Answer, Refusal>; 7]
 }
 
 // A carrier with no entries.
+#[tactic(auto, using(crate::proofs::Played::empty_row_played))]
 pub fn empty_row() -> [Result<Answer, Refusal>; 4]
     ensures value { result ≡ answers_in empty_row }
     ensures worked { Plays no_entries empty_row }
