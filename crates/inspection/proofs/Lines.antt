@@ -1,20 +1,15 @@
 -- Lines that are added one behind the other.
-use Rattle.std.proofs.Common.{◌≡◌, ℕ, suc, ◌+◌, ◌*◌, ◌<◌, ◌≤◌, true, ◌||◌, cond, List, [], ◌∷◌, ◌++◌, length, get_or, take, Ok, Err, Result, sym, ap, ◌∙◌, subst, arith}
+use Rattle.std.proofs.Common.{◌≡◌, ℕ, suc, ◌+◌, ◌*◌, ◌<◌, ◌≤◌, true, ◌||◌, List, [], ◌∷◌, ◌++◌, length, get_or, take, Ok, Err, Result, sym, ap, ◌∙◌, subst, arith}
 use Rattle.std.proofs.lemmas.List.{append_assoc, append-nil, length-take-le, take_more}
 use Rattle.std.proofs.ByRecursion.{All-from_get_or, All-take}
-use Rattle.std.proofs.lemmas.Bool.{le-leb}
 use Rattle.std.specs.List.{AllByRecursion}
 use Rattle.refusals.specs.declared.Fault.{Fault}
-use Rattle.refusals.specs.declared.Refusal.TheVariants.{TooShort}
-use Rattle.refusals.specs.Faults.{fault_of}
 use Rattle.sources.specs.declared.form.Heading.{Heading}
 use Rattle.sources.specs.Meaning.{Meaning, Sound}
 use Rattle.sources.specs.Sheets.{blank, within_limits}
 use Rattle.sources.proofs.Reading.{row_length}
 use Rattle.sheetfile.specs.Layout.{Row, entries_in}
-use Rattle.sheetfile.specs.Reading.{loaded}
-use Rattle.sheetfile.specs.Steps.{and_then, room_for, updated, without_value}
-use Rattle.sheetfile.specs.Writing.{rewrite_answer}
+use Rattle.sheetfile.specs.Steps.{updated, without_value}
 use Rattle.sheetfile.proofs.Sheets.{entries_push}
 use Rattle.inspection.specs.Listing.{row_line, row_lines}
 
@@ -61,12 +56,3 @@ entries_few m s jobs carriers i inside =
 pub loaded-told : (P : Result Meaning Fault → Type 0) (r : Result Meaning Fault) (old now : Meaning) → Ok tt ≡ without_value r → now ≡ updated r old (λ m. m) → P (Ok now) → P r
 loaded-told P (Err e) old now ok is p = absurd (let z : ◌≡◌ {A = ℕ} 0 1 = cc in omega arith)
 loaded-told P (Ok m) old now ok is p = subst (λ x. P (Ok x)) is p
-
--- a file that fits is refused only by the load
-room_refused : (r : Result Meaning Fault) (n out : ℕ) (f : Fault) → n ≤ out → Err f ≡ and_then r (λ _. room_for (fault_of TooShort) n out n) → r ≡ Err f
-room_refused (Err e) n out f fits is = let same : e ≡ f = cc in ap Err same
-room_refused (Ok m) n out f fits is =
-    absurd (let ok : room_for (fault_of TooShort) n out n ≡ Ok n = ap (λ t. cond t (Ok n) (Err (fault_of TooShort))) (le-leb n out fits) in let z : ◌≡◌ {A = ℕ} 0 1 = cc in omega arith)
-
-pub refused_load : (bs : List ℕ) (starts room out : ℕ) (f : Fault) → length bs ≤ out → Err f ≡ rewrite_answer bs starts room out → loaded bs starts room ≡ Err f
-refused_load bs starts room out f fits is = room_refused (loaded bs starts room) (length bs) out f fits is
