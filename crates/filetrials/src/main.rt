@@ -204,6 +204,7 @@ fn change_at(bytes: &mut [u8], at: usize, tally: &mut Tally) -> Result<(), Alloc
 
 // Examines a file with each single byte changed in every way.
 fn change_each(bytes: &mut [u8], tally: &mut Tally) -> Result<(), AllocError> {
+    // By place: the whole file is examined each time, so no loop can hold one of its bytes.
     for at in 0..bytes.len() {
         change_at(bytes, at, tally)?;
     }

@@ -32,6 +32,7 @@ pub fn list_pairs(sheet: &[u8], out: &mut [u8]) -> Result<usize, Refusal>
     ensures paired { FilePairsWell sheet.now }
     ensures short { AtMost 8320 (listed sheet.now) }
 {
+    // Tables of a fixed size, here and below: no heap is used, since C calls it.
     let mut starts = [0usize; MOST_STARTS];
     let mut entries = [Entry { job: 0, worth: 0 }; MOST_ENTRIES];
     let mut source = Sheet::new();
