@@ -213,6 +213,7 @@ fn change_each(bytes: &mut [u8], tally: &mut Tally) -> Result<(), AllocError> {
 
 // Examines each part of a file from its start, but the whole.
 fn cut_each(bytes: &[u8], tally: &mut Tally) -> Result<(), AllocError> {
+    // By place: what is examined is the file up to a place, and no library method gives each beginning of a slice.
     for end in 0..bytes.len() {
         examine(&bytes[..end], tally)?;
     }

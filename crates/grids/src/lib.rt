@@ -77,6 +77,7 @@ impl Grid {
         ensures worths { (i j : ℕ) → worth_at result.worths i j ≡ (if slice_index_or carriers.now i false then worth_at self.now.worths i j else 0) }
     {
         let mut worths = self.worths;
+        // By index: after a zip of `iter_mut` with the carriers a proof does not know what was written.
         for (carrier, row) in worths.iter_mut().enumerate() {
             if !carriers[carrier] {
                 *row = [0; 4];
