@@ -36,7 +36,7 @@ pub beyond_more : (xs ys zs : List (Result Answer Refusal)) (i : ℕ) (a : Resul
 beyond_more xs ys zs i a l h e =
     ap (drop (i + 1)) e ∙ drop-set-lt (i + 1) xs i a (omega arith) ∙ sym (drop-drop 1 i xs) ∙ ap (drop 1) h ∙ drop-drop 1 i zs
 
-pub replay_done : (m : Meaning) → Sound m → (calls : List Call) (i : ℕ) (before after : List (Result Answer Refusal)) (b : Books) → length calls ≤ i → i ≤ length calls →
+pub replay_done : (m : Meaning) → Sound m → (calls : List Call) (i : ℕ) (before after : List (Result Answer Refusal)) (b : Option Books) → length calls ≤ i → i ≤ length calls →
     tally_of m b ≡ tally_after m (take i calls) → take i after ≡ answers_from m None (take i calls) → drop i after ≡ drop i before → Replayed m calls before after b
 replay_done m s calls i before after b l l' t a d =
     let e : i ≡ length calls = omega arith in
@@ -52,9 +52,9 @@ replay_done m s calls i before after b l l' t a d =
 
 -- ---- the same, where the hall's source is known to be the one that was given
 
-module _ {S : Type 0} (mean : S → Meaning) (s s' : S) (same : s' ≡ s) (b : Books) (calls : List Call) (i : ℕ) (c : Call) (l : i < length calls)
+module _ {S : Type 0} (mean : S → Meaning) (s s' : S) (same : s' ≡ s) (b : Option Books) (calls : List Call) (i : ℕ) (c : Call) (l : i < length calls)
     (before : tally_of (mean s) b ≡ tally_after (mean s) (take i calls)) where
-  pub tally_performed : (b' : Books) → tally_of (mean s') b' ≡ tally_by (mean s') (tally_of (mean s') b) (get_or calls i c) → tally_of (mean s) b' ≡ tally_after (mean s) (take (i + 1) calls)
+  pub tally_performed : (b' : Option Books) → tally_of (mean s') b' ≡ tally_by (mean s') (tally_of (mean s') b) (get_or calls i c) → tally_of (mean s) b' ≡ tally_after (mean s) (take (i + 1) calls)
   tally_performed b' now =
       tally_more (mean s) calls i c l (tally_of (mean s) b) (tally_of (mean s) b') before
       (subst (λ z. tally_of (mean z) b' ≡ tally_by (mean z) (tally_of (mean z) b) (get_or calls i c)) same now)

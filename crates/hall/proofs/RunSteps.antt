@@ -1,8 +1,8 @@
--- What the calls of a run leave, where the books are open to the source.
-use Rattle.std.proofs.Common.{◌≡◌, ℕ, zero, suc, ◌+◌, ◌-◌, ◌<◌, ◌≤◌, Bool, true, false, cond, ◌&&◌, eqb, ltb, List, [], ◌∷◌, ◌++◌, length, get_or, take, Some, None, Ok, Option, Result, sym, refl, ap, ◌∙◌, subst, ⊎_elim, arith}
+-- What the calls of a run leave, where the books noted what the source means.
+use Rattle.std.proofs.Common.{◌≡◌, ℕ, zero, suc, ◌+◌, ◌-◌, ◌<◌, ◌≤◌, Bool, true, false, cond, ◌&&◌, eqb, ltb, List, [], ◌∷◌, ◌++◌, length, get_or, take, Some, Ok, Option, Result, sym, refl, ap, ◌∙◌, subst, arith}
 use Rattle.std.specs.Option.{option_to_list}
 use Rattle.std.proofs.lemmas.List.{take_more, length-take-le}
-use Rattle.std.proofs.lemmas.Bool.{cases_Bool, and_parts, and_left, both_ways, eqb-true, ne_eqb, lt-ltb, cond-true}
+use Rattle.std.proofs.lemmas.Bool.{and_parts, and_left, both_ways, eqb-true, ne_eqb, lt-ltb, cond-true}
 use Rattle.sources.specs.Meaning.{Meaning, Sound, row_of}
 use Rattle.sources.specs.Tables.{heading_of}
 use Rattle.refusals.specs.declared.Refusal.{Refusal}
@@ -17,7 +17,7 @@ use Rattle.auction.specs.declared.standing.Standing.{Standing}
 use Rattle.auction.specs.declared.standing.Standing.TheVariants.{Waiting, Bidding, Served, Out}
 use Rattle.auction.specs.Tally.{Tally}
 use Rattle.auction.specs.Consistent.{Consistent}
-use Rattle.auction.specs.Rules.{between, once, called, settled, settle_answer, settle_tally}
+use Rattle.auction.specs.Rules.{between, called, settle_answer, settle_tally}
 use Rattle.auction.specs.Runs.{RunState, in_flight, looks_for, gathered, if_waiting, if_bidding, beginning, waits_after, joins_line, first_acts, step_by, one_step, many_steps, ending_of, since, report_of, run_report, Reports, run_answer, ran, run_tally}
 use Rattle.auction.specs.InOrder.{Ordered, Grown}
 use Rattle.sources.proofs.Reading.{row_length}
@@ -26,30 +26,21 @@ use Rattle.auction.proofs.Steps.{room_enough, ending_is, begins_ordered, step_or
 use Rattle.rings.specs.Held.{held}
 use Rattle.hall.specs.declared.books.Books.{Books}
 use Rattle.hall.specs.declared.books.queues.Queues.{Queues}
-use Rattle.hall.specs.InBooks.{is_open, tally_in, tally_of}
+use Rattle.hall.specs.InBooks.{NotedOf, tally_in}
 use Rattle.hall.specs.Ruled.{Ruled}
 use Rattle.hall.specs.RunSteps.{state_of, Became}
-use Rattle.hall.proofs.Tables.{open_tally, shut_tally, open_parts, consistent_in, open_noted, renoted}
+use Rattle.auction.proofs.Matching.{some_same}
+use Rattle.hall.proofs.Tables.{consistent_in, renoted}
 
 -- ---- a row has no more entries than there are jobs
 
-pub few_entries : (m : Meaning) → Sound m → (b : Books) → is_open m b ≡ true → (i : ℕ) → length (row_of m i) ≤ 256
-few_entries m s b o i = omega (arith, row_length m s i, (open_parts m b o).2, (consistent_in b).limits.few_jobs)
+pub few_entries : (m : Meaning) → Sound m → (b : Books) → NotedOf m b → (i : ℕ) → length (row_of m i) ≤ 256
+few_entries m s b o i = omega (arith, row_length m s i, ap (λ h. h.jobs) o, (consistent_in b).limits.few_jobs)
 
--- ---- books that have a tally
+-- ---- what holds of the books' tally by the source's numbers
 
-pub after_call : (m : Meaning) (old new : Books) (f : Tally → Tally) → is_open m old ≡ true → tally_of m new ≡ once f (tally_of m old) →
-    (is_open m new ≡ true) × (tally_in new ≡ f (tally_in old))
-after_call m old new f o e = ⊎_elim
-    (λ n. let q : Some (tally_in new) ≡ Some (f (tally_in old)) = sym (open_tally m new n) ∙ is in (n, cc))
-    (λ n. let q : None ≡ Some (f (tally_in old)) = sym (shut_tally m new n) ∙ is in let z : ◌≡◌ {A = ℕ} 0 1 = cc in absurd (omega arith))
-    (cases_Bool (is_open m new))
-  where
-    is : tally_of m new ≡ Some (f (tally_in old))
-    is = e ∙ ap (once f) (open_tally m old o)
-
-consistent_for : (m : Meaning) (b : Books) → is_open m b ≡ true → Consistent m.carriers m.jobs m.ceiling (tally_in b)
-consistent_for m b o = renoted b.noted (heading_of m) (tally_in b) (open_noted m b o) (consistent_in b)
+consistent_for : (m : Meaning) (b : Books) → NotedOf m b → Consistent m.carriers m.jobs m.ceiling (tally_in b)
+consistent_for m b o = renoted b.noted (heading_of m) (tally_in b) o (consistent_in b)
 
 -- ---- a step, as the rings and the books hold it
 
@@ -57,30 +48,29 @@ same_state : (r q : RunState) → r.line ≡ q.line → r.flight ≡ q.flight �
 same_state r q a b c d = λ i. record { line = a i; flight = b i; tally = c i; steps = d i }
 
 -- The books and queues after a call and a step.
-module _ (m : Meaning) (old new : Books) (q q' : Queues) (was : is_open m old ≡ true) where
-  pub first_summoned : (i n : ℕ) → tally_of m new ≡ once (called m i Summon) (tally_of m old) → n ≡ looks_for old.lanes (length (row_of m i)) → held q'.line ≡ held q.line →
+module _ (m : Meaning) (old new : Books) (q q' : Queues) (ready : NotedOf m new) where
+  pub first_summoned : (i n : ℕ) → Some (tally_in new) ≡ Some (called m i Summon (tally_in old)) → n ≡ looks_for old.lanes (length (row_of m i)) → held q'.line ≡ held q.line →
       held q'.flight ≡ held q.flight ++ in_flight i n ∷ [] → Became m (λ k. step_by m true (i ∷ held q.line) (held q.flight) (tally_in old) k) new q'
   first_summoned i n t l e f =
-      let a = after_call m old new (called m i Summon) was t in
-      record { ready = a.0; made = λ k. same_state (state_of new q' (k + 1)) _ e (f ∙ ap (λ z. held q.flight ++ in_flight i z ∷ []) l) a.1 refl }
+      record { ready = ready; made = λ k. same_state (state_of new q' (k + 1)) _ e (f ∙ ap (λ z. held q.flight ++ in_flight i z ∷ []) l) (some_same t) refl }
 
-  pub first_looked : (i n : ℕ) → 0 < n → tally_of m new ≡ once (called m i Look) (tally_of m old) → held q'.line ≡ held q.line →
+  pub first_looked : (i n : ℕ) → 0 < n → Some (tally_in new) ≡ Some (called m i Look (tally_in old)) → held q'.line ≡ held q.line →
       held q'.flight ≡ held q.flight ++ in_flight i (n - 1) ∷ [] → Became m (λ k. first_acts m i n (held q.line) (held q.flight) (tally_in old) k) new q'
   first_looked i zero l t e f = absurd (omega arith)
   first_looked i (suc n) l t e f =
-      let a = after_call m old new (called m i Look) was t in record {
-        ready = a.0;
+      record {
+        ready = ready;
         made = λ k. same_state (state_of new q' (k + 1)) (first_acts m i (suc n) (held q.line) (held q.flight) (tally_in old) k) e
-            (f ∙ ap (λ z. held q.flight ++ in_flight i z ∷ []) (omega arith)) a.1 refl;
+            (f ∙ ap (λ z. held q.flight ++ in_flight i z ∷ []) (omega arith)) (some_same t) refl;
       }
 
-  pub first_settled : (i n : ℕ) (r : Result Verdict Refusal) → n ≤ 0 → tally_of m new ≡ settle_tally i m (tally_of m old) → r ≡ settle_answer i m (tally_of m old) →
+  pub first_settled : (i n : ℕ) (r : Result Verdict Refusal) → n ≤ 0 → Some (tally_in new) ≡ settle_tally i m (Some (tally_in old)) → r ≡ settle_answer i m (Some (tally_in old)) →
       held q'.line ≡ held q.line ++ joins_line i r → held q'.flight ≡ held q.flight → Became m (λ k. first_acts m i n (held q.line) (held q.flight) (tally_in old) k) new q'
   first_settled i zero r l t w e f =
-      let a = after_call m old new (settled m i) was t in record {
-        ready = a.0;
+      record {
+        ready = ready;
         made = λ k. same_state (state_of new q' (k + 1)) (first_acts m i 0 (held q.line) (held q.flight) (tally_in old) k)
-            (e ∙ ap (λ z. held q.line ++ joins_line i z) (w ∙ ap (settle_answer i m) (open_tally m old was))) f a.1 refl;
+            (e ∙ ap (λ z. held q.line ++ joins_line i z) w) f (some_same t) refl;
       }
   first_settled i (suc n) r l t w e f = absurd (omega arith)
 
@@ -157,7 +147,7 @@ module _ (m : Meaning) (depth : ℕ) (old new : Books) (q q' : Queues) (b : Beca
       let n : suc (budget - (k + 1)) ≡ budget - k = omega arith in
       ap (many_steps m depth (budget - (k + 1))) (b.made k) ∙ ap (λ z. many_steps m depth z (state_of old q k)) n ∙ h
 
-  pub ordered_on : is_open m old ≡ true → Ordered m (state_of old q 0) → Ordered m (state_of new q' 0)
+  pub ordered_on : NotedOf m old → Ordered m (state_of old q 0) → Ordered m (state_of new q' 0)
   ordered_on o r = subst (Ordered m) (sym (b.made 0)) (step_ordered m depth (state_of old q 0) (consistent_for m old o) r)
 
 pub no_steps : (m : Meaning) (depth n : ℕ) (r : RunState) → n ≡ 0 → many_steps m depth n r ≡ r
@@ -191,7 +181,7 @@ ending_told m b q r e is-end = is-end ∙ ap (λ z. cond z Done Spent) (both_non
 
 -- ---- the run
 
-module _ (m : Meaning) (sound : Sound m) (depth budget : ℕ) (old new : Books) (q : Queues) (steps : ℕ) (in' : between 1 128 depth ≡ true) (was : is_open m old ≡ true) (is : is_open m new ≡ true)
+module _ (m : Meaning) (sound : Sound m) (depth budget : ℕ) (old new : Books) (q : Queues) (steps : ℕ) (in' : between 1 128 depth ≡ true) (was : NotedOf m old)
     (made : state_of new q steps ≡ many_steps m depth budget (beginning m (tally_in old))) (order : Ordered m (state_of new q 0))
     (e : Ending) (is-end : e ≡ cond (eqb (length (held q.line)) 0 && eqb (length (held q.flight)) 0) Done Spent) (counts : Counts) (made-counts : counts ≡ since old.counts new.counts) where
   abbrev report : Report
@@ -200,12 +190,11 @@ module _ (m : Meaning) (sound : Sound m) (depth budget : ℕ) (old new : Books) 
   report_is : report ≡ run_report (tally_in old) (many_steps m depth budget (beginning m (tally_in old)))
   report_is = ap (λ z. record { steps = steps; counts = z; ending = e }) made-counts ∙ ap (report_of old.counts new.counts steps) (ending_told m new q order e is-end) ∙ ap (run_report (tally_in old)) made
 
-  pub run_ruled : Ruled (run_answer depth budget) (run_tally depth budget) m old new (Ok report)
+  pub run_ruled : Ruled (run_answer depth budget) (run_tally depth budget) m (Some old) (Some new) (Ok report)
   unfolding ran
   run_ruled = record {
-    answered = ap Ok report_is ∙ sym (ap (run_answer depth budget m) (open_tally m old was) ∙ cond-true {A = Result Report Refusal} (between 1 128 depth) _ _ in');
-    tallied = open_tally m new is ∙ ap (λ r. Some r.tally) made
-        ∙ sym (ap (run_tally depth budget m) (open_tally m old was) ∙ ap Some (cond-true (between 1 128 depth) _ _ in'));
+    answered = ap Ok report_is ∙ sym (cond-true {A = Result Report Refusal} (between 1 128 depth) _ _ in');
+    tallied = ap (λ r. Some r.tally) made ∙ sym (ap Some (cond-true (between 1 128 depth) _ _ in'));
     refused = λ h. absurd (both_ways true h refl);
   }
 

@@ -15,17 +15,16 @@ use Rattle.auction.specs.declared.standing.Verdict.TheVariants.{Out as GoesOut, 
 use Rattle.auction.specs.Tally.{holder_at, standing_at}
 use Rattle.auction.specs.Bids.{offer, judged_best, judged, best_worth}
 use Rattle.auction.specs.Consistent.{Consistent, BidSound, StandingSound}
-use Rattle.auction.specs.Rules.{bid_by, once, taken, bids, called, freed, counted_out, counted_stale, counted_award, carried_out, verdict_in, verdict_from, ended, settle_answer, settle_tally}
+use Rattle.auction.specs.Rules.{bid_at, taken, bids, called, freed, counted_out, counted_stale, counted_award, carried_out, verdict_in, verdict_from, ended, settle_answer, settle_tally}
 use Rattle.auction.proofs.Matching.{length-freed, holder_known}
 use Rattle.auction.proofs.Keeping.{ended_consistent, settle_stands}
 use Rattle.hall.specs.declared.books.Books.{Books}
 use Rattle.hall.specs.declared.books.Lot.{Lot}
 use Rattle.hall.specs.Kept.{Kept, tally_held, prices_of, holders_of}
-use Rattle.hall.specs.InBooks.{is_open, tally_in, tally_of}
-use Rattle.hall.specs.Steps.{Noted}
+use Rattle.hall.specs.InBooks.{NotedOf, tally_in}
 use Rattle.hall.proofs.Keeps.{kept_out, kept_by}
-use Rattle.hall.proofs.Tables.{has_tally, same_tally, take_set_any, take-freed, open_tally, is_open_lem, open_parts, open_noted, consistent_in, few_places, standing_in, stands_in}
-use Rattle.hall.proofs.Calling.{bid_open, bid_in, bid_known, bid_given}
+use Rattle.hall.proofs.Tables.{same_tally, take_set_any, take-freed, consistent_in, few_places, standing_in, stands_in}
+use Rattle.hall.proofs.Calling.{bid_known, bid_given}
 
 -- ---- the verdict
 
@@ -125,26 +124,26 @@ module _ (b : Books) (i : ℕ) (x : Bid) (v : Verdict) (known : i < b.noted.carr
 
 -- ---- settle, whole
 
-module _ (m : Meaning) (i : ℕ) (x : Bid) (old new : Books) (answer : Ok x ≡ bid_by m i Settle (tally_of m old)) (tallied : tally_of m new ≡ once (called m i Settle) (tally_of m old)) where
+module _ (m : Meaning) (i : ℕ) (x : Bid) (old new : Books) (noted : NotedOf m old) (same : new.noted ≡ old.noted) (answer : Ok x ≡ bid_at m i Settle (tally_in old))
+    (tallied : tally_in new ≡ called m i Settle (tally_in old)) where
   stood : standing_at (tally_in old) i ≡ Bidding x
   stood =
-      standing_in old i (bid_known m i Settle old x answer)
-      ∙ settle_stands old.lanes (take old.noted.jobs (prices_of old.lots)) (row_of m i) (get_or old.standings i Waiting) x (sym (bid_given m i Settle old x answer))
+      standing_in old i (bid_known m i Settle old noted x answer)
+      ∙ settle_stands old.lanes (take old.noted.jobs (prices_of old.lots)) (row_of m i) (get_or old.standings i Waiting) x (sym (bid_given m i Settle old noted x answer))
 
   -- The bid is found, and nothing is changed yet.
   unchanged : bids Settle i x (tally_in old) ≡ tally_in old
   unchanged = same_tally (bids Settle i x (tally_in old)) (tally_in old) refl refl refl refl
       (ap (set (tally_in old).standings i) (sym stood) ∙ set-get_or (tally_in old).standings i Out) refl
 
-  found : (is_open m new ≡ true) × (tally_in new ≡ tally_in old)
-  found = has_tally m new (tally_in old) (tallied ∙ ap (once (called m i Settle)) (open_tally m old (bid_open m i Settle old x answer))
-      ∙ ap (λ r. Some (taken r (bids Settle i) (tally_in old))) (sym (bid_in m i Settle old x answer)) ∙ ap Some unchanged)
+  found : tally_in new ≡ tally_in old
+  found = tallied ∙ ap (λ r. taken r (bids Settle i) (tally_in old)) (sym answer) ∙ unchanged
 
   pub settles_known : i < new.noted.carriers
-  settles_known = omega (arith, bid_known m i Settle old x answer, (open_parts m old (bid_open m i Settle old x answer)).1, (open_parts m new found.0).1)
+  settles_known = omega (arith, bid_known m i Settle old noted x answer, ap (λ h. h.carriers) same)
 
   pub settles_bidding : standing_at (tally_in new) i ≡ Bidding x
-  settles_bidding = ap (λ t. standing_at t i) found.1 ∙ stood
+  settles_bidding = ap (λ t. standing_at t i) found ∙ stood
 
   sound_there : BidSound new.noted.jobs new.noted.ceiling x.runner_up x.best
   sound_there = subst (StandingSound new.noted.jobs new.noted.ceiling) settles_bidding ((consistent_in new).sound i)
@@ -157,15 +156,12 @@ module _ (m : Meaning) (i : ℕ) (x : Bid) (old new : Books) (answer : Ok x ≡ 
     settles_ruled = judged-is ∙ judged_cut new.noted.jobs new.noted.ceiling new.step (prices_of new.lots) (holders_of new.lots) x sound_there
 
     ruled_in : v ≡ verdict_in (tally_in old) x
-    ruled_in = settles_ruled ∙ ap (λ t. verdict_in t x) found.1
+    ruled_in = settles_ruled ∙ ap (λ t. verdict_in t x) found
 
-    pub settled_answer : Ok v ≡ settle_answer i m (tally_of m old)
-    settled_answer =
-        ap Ok ruled_in ∙ ap (verdict_from (tally_in old)) (bid_in m i Settle old x answer) ∙ sym (ap (settle_answer i m) (open_tally m old (bid_open m i Settle old x answer)))
+    pub settled_answer : Ok v ≡ settle_answer i m (Some (tally_in old))
+    settled_answer = ap Ok ruled_in ∙ ap (verdict_from (tally_in old)) answer
 
-    pub settled_tally : (last : Books) → Noted new last → tally_in last ≡ carried_out i (best_worth x.best) v (tally_in new) → tally_of m last ≡ settle_tally i m (tally_of m old)
-    settled_tally last n e =
-        open_tally m last (is_open_lem m last (n.started_is ∙ (open_parts m new found.0).0) (n.noted_is ∙ open_noted m new found.0))
-        ∙ ap Some (e ∙ ap (carried_out i (best_worth x.best) v) found.1 ∙ ap (λ w. carried_out i (best_worth x.best) w (tally_in old)) ruled_in)
-        ∙ ap (λ r. Some (taken r (ended i) (tally_in old))) (bid_in m i Settle old x answer)
-        ∙ sym (ap (settle_tally i m) (open_tally m old (bid_open m i Settle old x answer)))
+    pub settled_tally : (last : Books) → tally_in last ≡ carried_out i (best_worth x.best) v (tally_in new) → Some (tally_in last) ≡ settle_tally i m (Some (tally_in old))
+    settled_tally last e =
+        ap Some (e ∙ ap (carried_out i (best_worth x.best) v) found ∙ ap (λ w. carried_out i (best_worth x.best) w (tally_in old)) ruled_in)
+        ∙ ap (λ r. Some (taken r (ended i) (tally_in old))) answer

@@ -17,7 +17,7 @@ use Rattle.hall.specs.declared.books.Books.{Books}
 use Rattle.sources.specs.Tables.{heading_of}
 use Rattle.sources.specs.declared.form.Heading.{Heading}
 use Rattle.hall.specs.Kept.{Kept, unsold, tally_held, prices_of}
-use Rattle.hall.specs.InBooks.{is_open, tally_in, tally_of}
+use Rattle.hall.specs.InBooks.{NotedOf, tally_in}
 use Rattle.hall.proofs.Keeps.{kept_out, kept_by}
 
 pub same_tally : (s t : Tally) → s.step ≡ t.step → s.lanes ≡ t.lanes → s.prices ≡ t.prices → s.holders ≡ t.holders → s.standings ≡ t.standings → s.counts ≡ t.counts → s ≡ t
@@ -34,10 +34,8 @@ take-freed n ss None = refl
 take-freed n ss (Some j) = take_set_any n ss j Waiting
 
 -- Books with equal fields are equal: the ghost field is a fact.
-pub same_books : (a b : Books) → a.started ≡ b.started → a.noted ≡ b.noted → a.step ≡ b.step → a.lanes ≡ b.lanes → a.lots ≡ b.lots → a.standings ≡ b.standings →
-    a.counts ≡ b.counts → a ≡ b
-same_books a b e1 e2 e3 e4 e5 e6 e7 = λ i. record {
-  started = e1 i;
+pub same_books : (a b : Books) → a.noted ≡ b.noted → a.step ≡ b.step → a.lanes ≡ b.lanes → a.lots ≡ b.lots → a.standings ≡ b.standings → a.counts ≡ b.counts → a ≡ b
+same_books a b e2 e3 e4 e5 e6 e7 = λ i. record {
   noted = e2 i;
   step = e3 i;
   lanes = e4 i;
@@ -46,37 +44,6 @@ same_books a b e1 e2 e3 e4 e5 e6 e7 = λ i. record {
   counts = e7 i;
   kept = is_prop→PathP (λ j. ∥ Kept (e2 j) (e3 j) (e4 j) (e5 j) (e6 j) (e7 j) ∥₁) (λ j. ∥∥₁_prop) a.kept b.kept i;
 }
-
--- ---- books that are open to a source
-
-pub open_tally : (m : Meaning) (b : Books) → is_open m b ≡ true → tally_of m b ≡ Some (tally_in b)
-unfolding tally_of
-open_tally m b e = cond-true (is_open m b) (Some (tally_in b)) None e
-
-pub shut_tally : (m : Meaning) (b : Books) → is_open m b ≡ false → tally_of m b ≡ None
-unfolding tally_of
-shut_tally m b e = cond-false (is_open m b) (Some (tally_in b)) None e
-
--- Books whose tally is there are open, and hold it.
-pub has_tally : (m : Meaning) (b : Books) (t : Tally) → tally_of m b ≡ Some t → (is_open m b ≡ true) × (tally_in b ≡ t)
-has_tally m b t e = ⊎_elim (λ o. (o, some_same (sym (open_tally m b o) ∙ e)))
-    (λ o. let q : None ≡ Some t = sym (shut_tally m b o) ∙ e in let z : ◌≡◌ {A = ℕ} 0 1 = cc in absurd (omega arith)) (cases_Bool (is_open m b))
-
-pub is_open_lem : (m : Meaning) (b : Books) → b.started ≡ true → b.noted ≡ heading_of m → is_open m b ≡ true
-is_open_lem m b s e =
-    and_from b.started (eqb b.noted.carriers m.carriers && (eqb b.noted.jobs m.jobs && eqb b.noted.ceiling m.ceiling)) s
-    (and_from (eqb b.noted.carriers m.carriers) (eqb b.noted.jobs m.jobs && eqb b.noted.ceiling m.ceiling) (eq-eqb b.noted.carriers m.carriers (ap (λ h. h.carriers) e))
-    (and_from (eqb b.noted.jobs m.jobs) (eqb b.noted.ceiling m.ceiling) (eq-eqb b.noted.jobs m.jobs (ap (λ h. h.jobs) e)) (eq-eqb b.noted.ceiling m.ceiling (ap (λ h. h.ceiling) e))))
-
-pub open_parts : (m : Meaning) (b : Books) → is_open m b ≡ true → (b.started ≡ true) × (b.noted.carriers ≡ m.carriers) × (b.noted.jobs ≡ m.jobs) × (b.noted.ceiling ≡ m.ceiling)
-open_parts m b e =
-    let p = and_parts b.started (eqb b.noted.carriers m.carriers && (eqb b.noted.jobs m.jobs && eqb b.noted.ceiling m.ceiling)) e in
-    let q = and_parts (eqb b.noted.carriers m.carriers) (eqb b.noted.jobs m.jobs && eqb b.noted.ceiling m.ceiling) p.1 in
-    let r = and_parts (eqb b.noted.jobs m.jobs) (eqb b.noted.ceiling m.ceiling) q.1 in
-    (p.0, eqb-true b.noted.carriers m.carriers q.0, eqb-true b.noted.jobs m.jobs r.0, eqb-true b.noted.ceiling m.ceiling r.1)
-
-pub open_noted : (m : Meaning) (b : Books) → is_open m b ≡ true → b.noted ≡ heading_of m
-open_noted m b e = let p = open_parts m b e in λ i. record { carriers = p.1 i; jobs = p.2 i; ceiling = p.3 i }
 
 -- What is consistent by the numbers that start noted is so by those of the source, and the other way.
 pub renoted : (h k : Heading) (t : Tally) → h ≡ k → Consistent h.carriers h.jobs h.ceiling t → Consistent k.carriers k.jobs k.ceiling t
@@ -88,10 +55,10 @@ consistent_in b = (kept_out b.kept).consistent
 pub few_places : (b : Books) (i : ℕ) → i < b.noted.carriers → i < 128
 few_places b i l = omega (arith, l, (consistent_in b).limits.few_carriers)
 
-pub low_prices_in : (m : Meaning) (b : Books) → is_open m b ≡ true → (j : ℕ) → get_or (take m.jobs (prices_of b.lots)) j 0 ≤ 2 ^ 37
+pub low_prices_in : (m : Meaning) (b : Books) → NotedOf m b → (j : ℕ) → get_or (take m.jobs (prices_of b.lots)) j 0 ≤ 2 ^ 37
 low_prices_in m b o j =
     let k = consistent_in b in
-    let e : get_or (take b.noted.jobs (prices_of b.lots)) j 0 ≡ get_or (take m.jobs (prices_of b.lots)) j 0 = ap (λ n. get_or (take n (prices_of b.lots)) j 0) (open_parts m b o).2 in
+    let e : get_or (take b.noted.jobs (prices_of b.lots)) j 0 ≡ get_or (take m.jobs (prices_of b.lots)) j 0 = ap (λ n. get_or (take n (prices_of b.lots)) j 0) (ap (λ h. h.jobs) o) in
     omega (arith, e, k.low_prices j, k.limits.low_ceiling, k.limits.low_step)
 
 -- A carrier's place in the table and in the tally.
@@ -122,9 +89,3 @@ module _ (h : Heading) (step lanes : ℕ) (lim : Limits h.carriers h.jobs h.ceil
 
   pub opened_keeps : Kept h step lanes (replicate 256 unsold) (replicate 128 Waiting) n
   opened_keeps = kept_by (opened h.carriers h.jobs step lanes) refl refl opened_is (opened_consistent h.carriers h.jobs h.ceiling step lanes lim)
-
-pub opened_tally : (m : Meaning) (h : Heading) (step lanes : ℕ) (b : Books) (o : Option Tally) → h ≡ heading_of m → b.started ≡ true → b.noted ≡ h →
-    tally_in b ≡ opened h.carriers h.jobs step lanes → start_answer step lanes m ≡ Ok tt → tally_of m b ≡ start_tally step lanes m o
-opened_tally m h step lanes b o q s n e ok =
-    open_tally m b (is_open_lem m b s (n ∙ q))
-    ∙ ap Some (e ∙ ap (λ z. opened z.carriers z.jobs step lanes) q) ∙ sym (ap (λ r. start_tally_by r (opened m.carriers m.jobs step lanes) o) ok)

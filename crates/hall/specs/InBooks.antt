@@ -1,17 +1,27 @@
 -- How the hall's books hold a tally.
-use Rattle.std.specs.Prelude.{Bool, cond, ◌&&◌, Some, None, Option, ◌==◌}
+use Rattle.std.specs.Prelude.{◌≡◌, Some, None, Option}
 use Rattle.sources.specs.Meaning.{Meaning}
+use Rattle.sources.specs.Tables.{heading_of}
 use Rattle.auction.specs.Tally.{Tally}
 use Rattle.hall.specs.declared.books.Books.{Books}
 use Rattle.hall.specs.Kept.{tally_held}
 
--- The books were started, and what start noted is what the source means.
-abbrev pub is_open : Meaning → Books → Bool
-is_open m b = b.started && (b.noted.carriers == m.carriers && (b.noted.jobs == m.jobs && b.noted.ceiling == m.ceiling))
+-- What start noted is what the source means.
+abbrev pub NotedOf : Meaning → Books → Type 0
+NotedOf m b = b.noted ≡ heading_of m
 
 abbrev pub tally_in : Books → Tally
 tally_in b = tally_held b.noted b.step b.lanes b.lots b.standings b.counts
 
 -- None where the hall was never started.
-unfoldable pub tally_of : Meaning → Books → Option Tally
-tally_of m b = cond (is_open m b) (Some (tally_in b)) None
+abbrev pub tally_of : Meaning → Option Books → Option Tally
+tally_of m None = None
+tally_of m (Some b) = Some (tally_in b)
+
+-- There was a tally before, there is one after, and the relation holds of the two.
+pub record Between (relation : Tally → Tally → Type 0) (old new : Option Tally) : Type 0 where
+  pub before : Tally
+  pub after : Tally
+  pub was : old ≡ Some before
+  pub is : new ≡ Some after
+  pub holds : relation before after

@@ -1,5 +1,5 @@
 -- What a replay promises of the answers and of the books, where the answers have room.
-use Rattle.std.specs.Prelude.{◌≡◌, List, ◌++◌, length, drop, is_some, Some, None, Result}
+use Rattle.std.specs.Prelude.{◌≡◌, List, ◌++◌, length, drop, is_some, Some, None, Option, Result}
 use Rattle.sources.specs.Meaning.{Meaning}
 use Rattle.refusals.specs.declared.Refusal.{Refusal}
 use Rattle.auction.specs.declared.call.Call.{Call}
@@ -12,7 +12,7 @@ use Rattle.hall.specs.declared.books.Books.{Books}
 use Rattle.hall.specs.InBooks.{tally_of}
 
 -- Each answer is the tally's after the calls before it; places behind the answers are as they were; the books hold the tally of the list; and the laws of the auction hold of it, if it was started.
-pub record Replayed (m : Meaning) (calls : List Call) (before after : List (Result Answer Refusal)) (b : Books) : Type 0 where
+pub record Replayed (m : Meaning) (calls : List Call) (before after : List (Result Answer Refusal)) (b : Option Books) : Type 0 where
   pub answered : after ≡ answers_from m None calls ++ drop (length calls) before
   pub tallied : tally_of m b ≡ tally_after m calls
   -- It was started exactly if a start of the list was accepted.

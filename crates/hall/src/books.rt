@@ -17,11 +17,9 @@ struct Lot {
     holder: Option<usize>,
 }
 
-// A flag, and no `Option`: every call would have to open it, while `is_open` reads it together with what start noted.
 // Arrays, of which the first `noted.jobs` and `noted.carriers` are used: no heap is used here, since C calls it.
 #[derive(Drop)]
 pub struct Books {
-    started: bool,
     // What start noted of the source.
     noted: Heading,
     step: u64,

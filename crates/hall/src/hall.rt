@@ -1,6 +1,7 @@
 // The hall and its calls.
-ghost use Rattle.std.specs.Prelude.{◌≡◌, false, is_ok, IfOk, None, OnOk};
-ghost use Rattle.hall.specs.InBooks.{tally_in, tally_of};
+ghost use Rattle.std.specs.Prelude.{◌≡◌, false, is_ok, IfOk, IfErr, Some, None, OnOk};
+ghost use Rattle.hall.specs.declared.books.Books.{Books};
+ghost use Rattle.hall.specs.InBooks.{NotedOf, Between, tally_of};
 ghost use Rattle.hall.specs.Ruled.{Ruled};
 ghost use Rattle.auction.specs.Looks.{Looks};
 ghost use Rattle.auction.specs.Rules.{start_answer, start_tally, summon_answer, summon_tally, look_answer, look_tally, settle_answer, settle_tally};
@@ -13,12 +14,13 @@ use auction::standing::{Counts, Report, Standing, Verdict};
 use refusals::Refusal;
 use sources::source::Source;
 
-// A hall owns its source, any source, and its books. Every call acts on that hall: it answers as the rule says, leaves the tally that the
-// rule says, and leaves the source as it was; a refused call leaves the books as they were.
+// A hall owns its source, any source, and its books; it has none before the first start. Every call acts on that hall: it answers as the rule
+// says, leaves the tally that the rule says, and leaves the source as it was; a refused call leaves the books as they were.
 #[derive(Drop)]
 pub struct Hall<S: Source> {
     source: S,
-    books: Books,
+    books: Option<Books>,
+    ghost faithful: { (b : Books) → books ≡ Some b → NotedOf (S.Source.meaning source) b },
 }
 
 impl<S: Source> Hall<S> {
@@ -29,7 +31,7 @@ impl<S: Source> Hall<S> {
     {
         Hall {
             source,
-            books: Books::new(),
+            books: None,
         }
     }
 
@@ -39,7 +41,8 @@ impl<S: Source> Hall<S> {
         ensures ruled { Ruled (λ m _. start_answer step lanes m) (start_tally step lanes) (S.meaning self.old.source) self.old.books self.new.books result }
         ensures kept { self.new.source ≡ self.old.source }
     {
-        self.books.start(&self.source, step, lanes)
+        self.books = Some(Books::start(&self.source, step, lanes)?);
+        Ok(())
     }
 
     // Makes a waiting carrier bidding, with nothing looked at.
@@ -48,17 +51,23 @@ impl<S: Source> Hall<S> {
         ensures ruled { Ruled (summon_answer carrier) (summon_tally carrier) (S.meaning self.old.source) self.old.books self.new.books result }
         ensures kept { self.new.source ≡ self.old.source }
     {
-        self.books.summon(&self.source, carrier)
+        let Some(books) = &mut self.books else {
+            return Err(Refusal::NeverStarted);
+        };
+        books.summon(&self.source, carrier)
     }
 
     // Takes the next lanes entries of a bidding carrier's row, or as many as are left, at the prices now.
     // Refused, in this order: never started, carrier number too large, no open bid, row fully looked at.
     pub fn look(&mut self, carrier: usize) -> Result<(), Refusal>
         ensures ruled { Ruled (look_answer carrier) (look_tally carrier) (S.meaning self.old.source) self.old.books self.new.books result }
-        ensures looks { OnOk result (Looks (S.meaning self.old.source) carrier (tally_in self.old.books) (tally_in self.new.books)) }
+        ensures looks { OnOk result (Between (Looks (S.meaning self.old.source) carrier) (tally_of (S.meaning self.old.source) self.old.books) (tally_of (S.meaning self.old.source) self.new.books)) }
         ensures kept { self.new.source ≡ self.old.source }
     {
-        self.books.look(&self.source, carrier)
+        let Some(books) = &mut self.books else {
+            return Err(Refusal::NeverStarted);
+        };
+        books.look(&self.source, carrier)
     }
 
     // Ends a bid whose row is fully looked at: out, stale or awarded.
@@ -67,52 +76,66 @@ impl<S: Source> Hall<S> {
         ensures ruled { Ruled (settle_answer carrier) (settle_tally carrier) (S.meaning self.old.source) self.old.books self.new.books result }
         ensures kept { self.new.source ≡ self.old.source }
     {
-        self.books.settle(&self.source, carrier)
+        let Some(books) = &mut self.books else {
+            return Err(Refusal::NeverStarted);
+        };
+        books.settle(&self.source, carrier)
     }
 
     // Makes summonses, looks and settles by its rule, until nobody waits or bids or the budget is used up, and answers how many of each it made.
     // Refused, in this order: never started, depth outside 1 to 128.
     pub fn run(&mut self, depth: usize, budget: u64) -> Result<Report, Refusal>
         ensures ruled { Ruled (run_answer depth budget) (run_tally depth budget) (S.meaning self.old.source) self.old.books self.new.books result }
-        ensures reported { IfOk result (λ p. Reports budget (tally_in self.old.books) (tally_in self.new.books) p) }
+        ensures reported { IfOk result (λ p. Between (λ t u. Reports budget t u p) (tally_of (S.meaning self.old.source) self.old.books) (tally_of (S.meaning self.old.source) self.new.books)) }
         ensures kept { self.new.source ≡ self.old.source }
     {
-        self.books.run(&self.source, depth, budget)
+        let Some(books) = &mut self.books else {
+            return Err(Refusal::NeverStarted);
+        };
+        books.run(&self.source, depth, budget)
+    }
+
+    // The books, if the hall was started.
+    fn opened(&self) -> Result<&Books, Refusal>
+        ensures opened { IfOk result (λ b. self.now.books ≡ Some b.now) }
+        ensures never { IfErr result (λ e. (e ≡ Refusal.NeverStarted) × (self.now.books ≡ None)) }
+    {
+        self.books.as_ref().ok_or(Refusal::NeverStarted)
     }
 
     // The price of a job. Refused, in this order: never started, job number too large.
     pub fn price(&self, job: usize) -> Result<u64, Refusal>
         ensures { result ≡ price_answer job (S.meaning self.now.source) (tally_of (S.meaning self.now.source) self.now.books) }
     {
-        self.books.price(&self.source, job)
+        self.opened()?.price(job)
     }
 
     // The carrier that holds a job, if there is one. Refused as the price is.
     pub fn holder(&self, job: usize) -> Result<Option<usize>, Refusal>
         ensures { result ≡ holder_answer job (S.meaning self.now.source) (tally_of (S.meaning self.now.source) self.now.books) }
     {
-        self.books.holder(&self.source, job)
+        self.opened()?.holder(job)
     }
 
     // A carrier's standing, with its unfinished bid. Refused, in this order: never started, carrier number too large.
     pub fn standing(&self, carrier: usize) -> Result<Standing, Refusal>
         ensures { result ≡ standing_answer carrier (S.meaning self.now.source) (tally_of (S.meaning self.now.source) self.now.books) }
     {
-        self.books.standing(&self.source, carrier)
+        self.opened()?.standing(carrier)
     }
 
     // The total worth of the jobs that are held. Refused if never started.
     pub fn worth(&self) -> Result<u64, Refusal>
         ensures { result ≡ worth_answer (S.meaning self.now.source) (tally_of (S.meaning self.now.source) self.now.books) }
     {
-        self.books.worth(&self.source)
+        Ok(self.opened()?.worth())
     }
 
     // The counts of summonses, awards, stale bids and outs. Refused if never started.
     pub fn counts(&self) -> Result<Counts, Refusal>
         ensures { result ≡ counts_answer (S.meaning self.now.source) (tally_of (S.meaning self.now.source) self.now.books) }
     {
-        self.books.counts(&self.source)
+        Ok(self.opened()?.counts())
     }
 
     // Makes one call, and gives its answer.

@@ -1,15 +1,16 @@
-// The calls, on books and the source that they are kept for.
-ghost use Rattle.std.specs.Prelude.{◌≡◌, ℕ, ◌^◌, ◌<◌, ◌≤◌, false, length, take, is_ok, Some, None, OnOk, slice_index};
+// The calls, on books and the source that they were started for.
+ghost use Rattle.std.specs.Prelude.{◌≡◌, ℕ, ◌^◌, ◌<◌, ◌≤◌, false, length, take, is_ok, Some, None, IfOk, OnOk, slice_index};
+ghost use Rattle.std.specs.Result.{result_map_both};
 ghost use Rattle.sources.specs.Meaning.{Meaning, row_of};
 ghost use Rattle.auction.specs.Bids.{looked_on, judged, best_worth};
 ghost use Rattle.auction.specs.Consistent.{Limits, BidSound};
 ghost use Rattle.auction.specs.Looks.{Looks};
-ghost use Rattle.auction.specs.Rules.{opened, start_answer, start_tally, bid_after, bid_by, once, called, summon_answer, summon_tally, look_answer, look_tally, freed, verdict_in, carried_out, settle_answer, settle_tally};
+ghost use Rattle.auction.specs.Rules.{opened, start_answer, start_tally, bid_after, bid_at, called, summon_answer, summon_tally, look_answer, look_tally, freed, verdict_in, carried_out, settle_answer, settle_tally};
 ghost use Rattle.auction.specs.Tally.{standing_at};
 ghost use Rattle.hall.specs.Kept.{prices_of, holders_of};
-ghost use Rattle.hall.specs.InBooks.{tally_in, tally_of, is_open};
+ghost use Rattle.hall.specs.InBooks.{NotedOf, tally_in};
 ghost use Rattle.hall.specs.Ruled.{Ruled};
-ghost use Rattle.hall.specs.Steps.{Noted, admitted_below, admitted, counts_after, standing_after};
+ghost use Rattle.hall.specs.Steps.{counts_after, standing_after};
 
 use super::{Books, Lot};
 use crate::weighing::{best_worth, weighed};
@@ -137,14 +138,12 @@ fn free(standings: &mut [Standing; MOST_CARRIERS], former: Option<usize>)
 
 impl Books {
     // Every price is 0, nobody holds a job, every carrier waits, and every count is 0.
-    fn fresh(started: bool, heading: Heading, step: u64, lanes: usize) -> Self
+    pub(crate) fn fresh(heading: Heading, step: u64, lanes: usize) -> Self
         requires { Limits heading.carriers heading.jobs heading.ceiling step lanes }
-        ensures flag { result.started ≡ started }
         ensures noted { result.noted ≡ heading }
         ensures opened { tally_in result ≡ opened heading.carriers heading.jobs step lanes }
     {
         Books {
-            started,
             noted: heading,
             step,
             lanes,
@@ -157,72 +156,27 @@ impl Books {
         }
     }
 
-    // Never started.
-    #[tactic(auto, unfolding(crate::specs::InBooks::tally_of))]
-    pub(crate) fn new() -> Self
-        ensures { (m : Meaning) → tally_of m result ≡ None }
-    {
-        let nothing = Heading {
-            carriers: 0,
-            jobs: 0,
-            ceiling: 0,
-        };
-        Books::fresh(false, nothing, 1, 1)
-    }
-
-    // Whether these books were started for what the source is.
-    pub(super) fn is_open<S: Source>(&self, source: &S) -> bool
-        ensures { result ≡ is_open (S.meaning source.now) self.now }
-    {
-        self.started && self.noted == heading_of(source)
-    }
-
-    pub(crate) fn start<S: Source>(
-        &mut self,
-        source: &S,
-        step: u64,
-        lanes: usize,
-    ) -> Result<(), Refusal>
-        ensures { Ruled (λ m _. start_answer step lanes m) (start_tally step lanes) (S.meaning source.now) self.old self.new result }
+    // The books of a start, which is refused as the hall's is.
+    pub(crate) fn start<S: Source>(source: &S, step: u64, lanes: usize) -> Result<Self, Refusal>
+        ensures started { IfOk result (λ b. NotedOf (S.meaning source.now) b × (Some (tally_in b) ≡ start_tally step lanes (S.meaning source.now) None)) }
+        ensures answered { result_map_both (λ b. tt) (λ e. e) result ≡ start_answer step lanes (S.meaning source.now) }
     {
         check_start(source, step, lanes)?;
-        *self = Books::fresh(true, heading_of(source), step, lanes);
-        Ok(())
-    }
-
-    // Whether the hall was started, then whether the number of a carrier or job is below how many there are.
-    pub(super) fn admit_below<S: Source>(
-        &self,
-        source: &S,
-        number: usize,
-        count: usize,
-        refusal: Refusal,
-    ) -> Result<(), Refusal>
-        ensures { result ≡ admitted_below count refusal (S.meaning source.now) number self.now }
-    {
-        if !self.is_open(source) {
-            Err(Refusal::NeverStarted)
-        } else if number >= count {
-            Err(refusal)
-        } else {
-            Ok(())
-        }
-    }
-
-    pub(super) fn admit<S: Source>(&self, source: &S, carrier: usize) -> Result<(), Refusal>
-        ensures { result ≡ admitted (S.meaning source.now) carrier self.now }
-    {
-        self.admit_below(source, carrier, self.noted.carriers, Refusal::NoSuchCarrier)
+        Ok(Books::fresh(heading_of(source), step, lanes))
     }
 
     // Calls on a carrier, whose standing is lent to be changed. A bid that settles is still open after.
-    #[tactic(auto, unfolding(crate::specs::InBooks::tally_of, auction::specs::Rules::bid_at))]
+    #[tactic(auto, unfolding(auction::specs::Rules::bid_at))]
     fn call_on<S: Source>(&mut self, source: &S, carrier: usize, act: Act) -> Result<Bid, Refusal>
-        ensures answered { result ≡ bid_by (S.meaning source.now) carrier act (tally_of (S.meaning source.now) self.old) }
-        ensures tallied { tally_of (S.meaning source.now) self.new ≡ once (called (S.meaning source.now) carrier act) (tally_of (S.meaning source.now) self.old) }
+        requires { NotedOf (S.meaning source.now) self.old }
+        ensures noted { self.new.noted ≡ self.old.noted }
+        ensures answered { result ≡ bid_at (S.meaning source.now) carrier act (tally_in self.old) }
+        ensures tallied { tally_in self.new ≡ called (S.meaning source.now) carrier act (tally_in self.old) }
         ensures refused { is_ok result ≡ false → self.new ≡ self.old }
     {
-        self.admit(source, carrier)?;
+        if carrier >= self.noted.carriers {
+            return Err(Refusal::NoSuchCarrier);
+        }
         respond(
             source,
             &self.lots,
@@ -235,14 +189,18 @@ impl Books {
     }
 
     pub(crate) fn summon<S: Source>(&mut self, source: &S, carrier: usize) -> Result<(), Refusal>
-        ensures { Ruled (summon_answer carrier) (summon_tally carrier) (S.meaning source.now) self.old self.new result }
+        requires { NotedOf (S.meaning source.now) self.old }
+        ensures noted { self.new.noted ≡ self.old.noted }
+        ensures ruled { Ruled (summon_answer carrier) (summon_tally carrier) (S.meaning source.now) (Some self.old) (Some self.new) result }
     {
         self.call_on(source, carrier, Act::Summon)?;
         Ok(())
     }
 
     pub(crate) fn look<S: Source>(&mut self, source: &S, carrier: usize) -> Result<(), Refusal>
-        ensures ruled { Ruled (look_answer carrier) (look_tally carrier) (S.meaning source.now) self.old self.new result }
+        requires { NotedOf (S.meaning source.now) self.old }
+        ensures noted { self.new.noted ≡ self.old.noted }
+        ensures ruled { Ruled (look_answer carrier) (look_tally carrier) (S.meaning source.now) (Some self.old) (Some self.new) result }
         ensures looks { OnOk result (Looks (S.meaning source.now) carrier (tally_in self.old) (tally_in self.new)) }
     {
         self.call_on(source, carrier, Act::Look)?;
@@ -254,7 +212,7 @@ impl Books {
         requires known { carrier < self.old.noted.carriers }
         requires bidding { standing_at (tally_in self.old) carrier ≡ Standing.Bidding bid }
         requires ruled { verdict ≡ verdict_in (tally_in self.old) bid }
-        ensures noted { Noted self.old self.new }
+        ensures noted { self.new.noted ≡ self.old.noted }
         ensures tallied { tally_in self.new ≡ carried_out carrier (best_worth bid.best) verdict (tally_in self.old) }
     {
         match verdict {
@@ -286,7 +244,9 @@ impl Books {
         source: &S,
         carrier: usize,
     ) -> Result<Verdict, Refusal>
-        ensures { Ruled (settle_answer carrier) (settle_tally carrier) (S.meaning source.now) self.old self.new result }
+        requires { NotedOf (S.meaning source.now) self.old }
+        ensures noted { self.new.noted ≡ self.old.noted }
+        ensures ruled { Ruled (settle_answer carrier) (settle_tally carrier) (S.meaning source.now) (Some self.old) (Some self.new) result }
     {
         let bid = self.call_on(source, carrier, Act::Settle)?;
         let verdict = judge(self.step, &self.lots, bid);

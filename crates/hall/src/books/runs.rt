@@ -1,9 +1,9 @@
-// Run, on books and the source that they are kept for.
-ghost use Rattle.std.specs.Prelude.{◌≡◌, ◌+◌, ◌<◌, ◌≤◌, true, [], ◌∷◌, length, IfOk};
+// Run, on books and the source that they were started for.
+ghost use Rattle.std.specs.Prelude.{◌≡◌, ◌+◌, ◌<◌, ◌≤◌, true, [], ◌∷◌, length, Some, IfOk};
 ghost use Rattle.rings.specs.Held.{held};
 ghost use Rattle.auction.specs.Runs.{looks_for, since, beginning, waits_after, first_acts, step_by, one_step, many_steps, Reports, run_answer, run_tally};
 ghost use Rattle.auction.specs.InOrder.{Ordered, Grown};
-ghost use Rattle.hall.specs.InBooks.{is_open, tally_in};
+ghost use Rattle.hall.specs.InBooks.{NotedOf, tally_in};
 ghost use Rattle.hall.specs.Ruled.{Ruled};
 ghost use Rattle.hall.specs.RunSteps.{state_of, Became};
 
@@ -52,7 +52,7 @@ fn waits_after(carrier: usize, verdict: Verdict) -> Option<usize>
 impl Books {
     // Summons the line's first, which joins the flight's end.
     fn summon_first<S: Source>(&mut self, source: &S, carrier: usize, queues: &mut Queues<'_>)
-        requires open { is_open (S.meaning source.now) self.old ≡ true }
+        requires open { NotedOf (S.meaning source.now) self.old }
         requires place { length (held queues.old.flight) < 128 }
         ensures { Became (S.meaning source.now) (λ n. step_by (S.meaning source.now) true (carrier ∷ held queues.old.line) (held queues.old.flight) (tally_in self.old) n) self.new queues.new }
     {
@@ -63,7 +63,7 @@ impl Books {
 
     // The flight's first is taken: with looks left it looks and goes to the flight's end; without, it settles, and a carrier that then waits joins the line's end.
     fn first_acts<S: Source>(&mut self, source: &S, first: InFlight, queues: &mut Queues<'_>)
-        requires open { is_open (S.meaning source.now) self.old ≡ true }
+        requires open { NotedOf (S.meaning source.now) self.old }
         requires line_place { length (held queues.old.line) < 128 }
         requires flight_place { length (held queues.old.flight) < 128 }
         ensures { Became (S.meaning source.now) (λ n. first_acts (S.meaning source.now) first.carrier first.looks_left (held queues.old.line) (held queues.old.flight) (tally_in self.old) n) self.new queues.new }
@@ -82,7 +82,7 @@ impl Books {
 
     // One step: if the flight is shorter than the depth and the line isn't empty, the line's first is summoned; otherwise the flight's first is taken.
     fn step<S: Source>(&mut self, source: &S, depth: usize, queues: &mut Queues<'_>)
-        requires open { is_open (S.meaning source.now) self.old ≡ true }
+        requires open { NotedOf (S.meaning source.now) self.old }
         requires ordered { Ordered (S.meaning source.now) (state_of self.old queues.old 0) }
         requires busy { 0 < length (held queues.old.line) + length (held queues.old.flight) }
         requires deep { 1 ≤ depth }
@@ -97,7 +97,7 @@ impl Books {
 
     // The flight begins with the bidding carriers and the line with the waiting ones, both ascending.
     fn begin<S: Source>(&self, source: &S, queues: &mut Queues<'_>)
-        requires open { is_open (S.meaning source.now) self.now ≡ true }
+        requires open { NotedOf (S.meaning source.now) self.now }
         requires nobody_waits { held queues.old.line ≡ [] }
         requires nobody_bids { held queues.old.flight ≡ [] }
         ensures { state_of self.now queues.new 0 ≡ beginning (S.meaning source.now) (tally_in self.now) }
@@ -122,10 +122,10 @@ impl Books {
         budget: u64,
         queues: &mut Queues<'_>,
     ) -> u64
-        requires open { is_open (S.meaning source.now) self.old ≡ true }
+        requires open { NotedOf (S.meaning source.now) self.old }
         requires ordered { Ordered (S.meaning source.now) (state_of self.old queues.old 0) }
         requires deep { 1 ≤ depth }
-        ensures ready { is_open (S.meaning source.now) self.new ≡ true }
+        ensures ready { NotedOf (S.meaning source.now) self.new }
         ensures made { state_of self.new queues.new result ≡ many_steps (S.meaning source.now) depth budget (state_of self.old queues.old 0) }
         ensures ordered { Ordered (S.meaning source.now) (state_of self.new queues.new 0) }
         ensures grown { Grown self.old.counts self.new.counts }
@@ -139,19 +139,18 @@ impl Books {
         budget
     }
 
-    #[tactic(auto, unfolding(crate::specs::InBooks::tally_of, auction::specs::Runs::ran))]
+    #[tactic(auto, unfolding(auction::specs::Runs::ran))]
     pub(crate) fn run<S: Source>(
         &mut self,
         source: &S,
         depth: usize,
         budget: u64,
     ) -> Result<Report, Refusal>
-        ensures ruled { Ruled (run_answer depth budget) (run_tally depth budget) (S.meaning source.now) self.old self.new result }
+        requires { NotedOf (S.meaning source.now) self.old }
+        ensures noted { NotedOf (S.meaning source.now) self.new }
+        ensures ruled { Ruled (run_answer depth budget) (run_tally depth budget) (S.meaning source.now) (Some self.old) (Some self.new) result }
         ensures reported { IfOk result (λ p. Reports budget (tally_in self.old) (tally_in self.new) p) }
     {
-        if !self.is_open(source) {
-            return Err(Refusal::NeverStarted);
-        }
         if !(1..=128).contains(&depth) {
             return Err(Refusal::DepthOutside);
         }

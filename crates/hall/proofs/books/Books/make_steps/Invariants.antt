@@ -1,7 +1,7 @@
-use Rattle.std.proofs.Common.{◌≡◌, ◌-◌, true}
+use Rattle.std.proofs.Common.{◌≡◌, ◌-◌}
 use Rattle.auction.specs.Runs.{many_steps}
 use Rattle.auction.specs.InOrder.{Ordered}
-use Rattle.hall.specs.InBooks.{is_open}
+use Rattle.hall.specs.InBooks.{NotedOf}
 use Rattle.hall.specs.RunSteps.{state_of}
 use Rattle.hall.proofs.books.Books.make_steps.Given as goal
 
@@ -9,7 +9,7 @@ use Rattle.hall.proofs.books.Books.make_steps.Given as goal
 abbrev pub invariant-loop-made : goal.invariant-loop-made
 invariant-loop-made g l =
     record {
-      ready : is_open (g.S.Source.meaning l.source) l.self ≡ true;
+      ready : NotedOf (g.S.Source.meaning l.source) l.self;
       ordered : Ordered (g.S.Source.meaning l.source) (state_of l.self l.queues 0);
       left : many_steps (g.S.Source.meaning l.source) l.depth (l.budget - l.made) (state_of l.self l.queues l.made)
           ≡ many_steps (g.S.Source.meaning l.source) l.depth l.budget (state_of l.initial.self l.initial.queues 0);

@@ -5,6 +5,6 @@ use Rattle.hall.proofs.Questions.{price_told}
 use Rattle.hall.proofs.books.Books.price.Goals as goal
 
 pub returns : goal.returns
-returns g c =
+returns c =
     let e : c.map.result ≡ result_map_both (λ (l : Lot). l.price) (λ x. x) c.lot.result = search rules in
-    price_told (g.S.Source.meaning c.args.source.now) c.args.self.now c.args.job _ (e ∙ ap (result_map_both (λ (l : Lot). l.price) (λ x. x)) c.lot.ensures)
+    λ m noted. price_told m c.args.self.now noted c.args.job _ (e ∙ ap (result_map_both (λ (l : Lot). l.price) (λ x. x)) c.lot.ensures)

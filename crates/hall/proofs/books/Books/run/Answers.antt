@@ -15,11 +15,11 @@ returns g c =
     let old = c.args.self.now in
     let new = c.make_steps-steps.new.self in
     let q = c.make_steps-steps.new.queues in
-    let o = sym c.if-not-is_open.ensures in
     let d : between 1 128 c.args.depth ≡ true = grind (arith, common_steps) in
     let deep : 1 ≤ c.args.depth = grind (arith, common_steps) in
     let made = c.make_steps-steps.ensures.made ∙ ap (many_steps m c.args.depth c.args.budget) c.begin.ensures in
     record {
-      ruled = run_ruled m sound c.args.depth c.args.budget old new q c.make_steps-steps.result d o c.make_steps-steps.ensures.ready made c.make_steps-steps.ensures.ordered c.ending.result c.ending.ensures c.since.result c.since.ensures;
-      reported = run_reported m sound c.args.depth c.args.budget old new q c.make_steps-steps.result d o c.make_steps-steps.ensures.ready made c.make_steps-steps.ensures.ordered c.ending.result c.ending.ensures c.since.result c.since.ensures deep;
+      noted = c.make_steps-steps.ensures.ready;
+      ruled = run_ruled m sound c.args.depth c.args.budget old new q c.make_steps-steps.result d c.requires made c.make_steps-steps.ensures.ordered c.ending.result c.ending.ensures c.since.result c.since.ensures;
+      reported = run_reported m sound c.args.depth c.args.budget old new q c.make_steps-steps.result d c.requires made c.make_steps-steps.ensures.ordered c.ending.result c.ending.ensures c.since.result c.since.ensures deep;
     }

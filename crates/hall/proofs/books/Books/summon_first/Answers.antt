@@ -9,6 +9,6 @@ looks_for-looks_left-requires-clause-short g c =
 
 pub returns : goal.returns
 returns g c =
-    first_summoned (g.S.Source.meaning c.args.source.now) c.args.self.now c.summon.new.self c.args.queues.now c.join_flight.new.self c.requires.open c.args.carrier
-    c.looks_for-looks_left.result c.summon.ensures.tallied (c.looks_for-looks_left.ensures ∙ ap (looks_for c.args.self.now.lanes) c.row_length.ensures)
+    first_summoned (g.S.Source.meaning c.args.source.now) c.args.self.now c.summon.new.self c.args.queues.now c.join_flight.new.self (c.summon.ensures.noted ∙ c.requires.open) c.args.carrier
+    c.looks_for-looks_left.result c.summon.ensures.ruled.tallied (c.looks_for-looks_left.ensures ∙ ap (looks_for c.args.self.now.lanes) c.row_length.ensures)
     c.join_flight.ensures.waits c.join_flight.ensures.bids
