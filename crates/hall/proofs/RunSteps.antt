@@ -15,7 +15,6 @@ use Rattle.auction.specs.declared.standing.Report.{Report}
 use Rattle.auction.specs.declared.standing.Verdict.{Verdict}
 use Rattle.auction.specs.declared.standing.Standing.{Standing}
 use Rattle.auction.specs.declared.standing.Standing.TheVariants.{Waiting, Bidding, Served, Out}
-use Rattle.auction.specs.Tally.{Tally}
 use Rattle.auction.specs.Consistent.{Consistent}
 use Rattle.auction.specs.Rules.{between, called, settle_answer, settle_tally}
 use Rattle.auction.specs.Runs.{RunState, in_flight, looks_for, gathered, if_waiting, if_bidding, beginning, waits_after, joins_line, first_acts, step_by, one_step, many_steps, ending_of, since, report_of, run_report, Reports, run_answer, ran, run_tally}

@@ -1,5 +1,5 @@
 -- A settled bid: the verdict, what carrying it out leaves in the tables, and the tally after.
-use Rattle.std.proofs.Common.{◌≡◌, ℕ, ◌^◌, ◌<◌, ◌≤◌, true, cond, leb, List, length, get_or, take, set, pos, Some, None, Ok, Option, sym, refl, ap, ◌∙◌, subst, arith}
+use Rattle.std.proofs.Common.{◌≡◌, ℕ, ◌^◌, ◌<◌, ◌≤◌, cond, leb, List, length, get_or, take, set, pos, Some, None, Ok, Option, sym, refl, ap, ◌∙◌, subst, arith}
 use lib.Signed.{lt_z}
 use Rattle.std.proofs.lemmas.List.{map-set, length-set, get_or-take, set-get_or}
 use Rattle.std.proofs.lemmas.Bool.{cond_both}

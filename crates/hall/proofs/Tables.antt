@@ -1,20 +1,17 @@
 -- The tables of the books and the tally that they hold.
-use Rattle.std.proofs.Common.{◌≡◌, ℕ, zero, suc, ◌^◌, ◌<◌, ◌≤◌, true, false, ◌&&◌, eqb, List, [], ◌∷◌, get_or, take, set, replicate, Some, None, Ok, Option, sym, refl, ap, ◌∙◌, subst, ⊎_elim, arith}
+use Rattle.std.proofs.Common.{◌≡◌, ℕ, zero, suc, ◌^◌, ◌<◌, ◌≤◌, List, [], ◌∷◌, get_or, take, set, replicate, Some, None, Option, refl, ap, ◌∙◌, subst, arith}
 use mathlib.Core.HLevel.{is_prop→PathP}
 use mathlib.Core.Logic.{∥∥₁_prop}
 use Rattle.std.proofs.lemmas.List.{take-replicate, get_or-take, get_or_default}
-use Rattle.std.proofs.lemmas.Bool.{cases_Bool, and_from, and_parts, eq-eqb, eqb-true, cond-true, cond-false}
 use Rattle.sources.specs.Meaning.{Meaning}
 use Rattle.auction.specs.declared.standing.Counts.{Counts}
 use Rattle.auction.specs.declared.standing.Standing.{Standing}
 use Rattle.auction.specs.declared.standing.Standing.TheVariants.{Waiting, Out}
 use Rattle.auction.specs.Tally.{Tally, standing_at}
-use Rattle.auction.specs.Rules.{start_answer, start_tally, start_tally_by, no_counts, opened, freed, stands}
+use Rattle.auction.specs.Rules.{no_counts, opened, freed, stands}
 use Rattle.auction.specs.Consistent.{Consistent, Limits}
-use Rattle.auction.proofs.Matching.{some_same}
 use Rattle.auction.proofs.Keeping.{opened_consistent}
 use Rattle.hall.specs.declared.books.Books.{Books}
-use Rattle.sources.specs.Tables.{heading_of}
 use Rattle.sources.specs.declared.form.Heading.{Heading}
 use Rattle.hall.specs.Kept.{Kept, unsold, tally_held, prices_of}
 use Rattle.hall.specs.InBooks.{NotedOf, tally_in}
