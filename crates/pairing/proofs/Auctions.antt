@@ -1,5 +1,5 @@
 -- The two calls: what they answer, what they lead to, and that the pairing is then worth most.
-use Rattle.std.proofs.Common.{◌≡◌, ℕ, ◌+◌, ◌*◌, ◌^◌, ◌<◌, min, Bool, true, false, cond, ltb, ◌≢◌, List, length, get_or, set, Some, None, Ok, Err, Result, sym, refl, ap, ◌∙◌, subst, ⊎_elim, mul-zero, arith, below_more}
+use Rattle.std.proofs.Common.{◌≡◌, ℕ, ◌+◌, ◌*◌, ◌^◌, ◌<◌, min, Bool, true, false, cond, ltb, ◌≢◌, List, length, get_or, set, Some, None, Ok, Err, Option, Result, sym, refl, ap, ◌∙◌, subst, ⊎_elim, mul-zero, arith, below_more}
 use Rattle.std.proofs.ByRecursion.{All-get_or}
 use Rattle.std.proofs.lemmas.List.{ext_get_or, get_or_past, get_or-set_other, get_or-set_same, length-map}
 use Rattle.std.proofs.lemmas.Bool.{cases_lt, cond_both, cond-true, lt-ltb}
@@ -94,7 +94,7 @@ times_some g w some =
 
 -- ---- what a replay of the two calls shows
 
-module _ (m : Meaning) (n : ℕ) (is : n ≡ m.carriers) (before after : List (Result Answer Refusal)) (b : Books) (r : Replayed (times_of (n + 1) m) two_calls before after b) where
+module _ (m : Meaning) (n : ℕ) (is : n ≡ m.carriers) (before after : List (Result Answer Refusal)) (b : Option Books) (r : Replayed (times_of (n + 1) m) two_calls before after b) where
   pub tally_is : tally_of (times_of (n + 1) m) b ≡ auctioned m
   unfolding auctioned
   tally_is = r.tallied ∙ ap (λ k. tally_after (times_of (k + 1) m) two_calls) is

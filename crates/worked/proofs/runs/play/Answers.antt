@@ -1,4 +1,4 @@
-use Rattle.std.proofs.Common.{◌≡◌, leb, List, ◌++◌, length, replicate, is_ok, None, Ok, Result, sym, ap, ◌∙◌, arith, rules}
+use Rattle.std.proofs.Common.{◌≡◌, leb, List, ◌++◌, length, replicate, is_ok, None, Ok, Option, Result, sym, ap, ◌∙◌, arith, rules}
 use Rattle.std.proofs.lemmas.List.{append-nil, drop_all, length-replicate}
 use Rattle.std.proofs.lemmas.Bool.{cond-true, le-leb}
 use Rattle.refusals.specs.declared.Refusal.{Refusal}
@@ -14,7 +14,7 @@ use Rattle.hall.specs.Replayed.{Replayed}
 use Rattle.worked.proofs.runs.play.Goals as goal
 
 -- Answers that have no place behind them.
-answers-are : (m m' : Meaning) (calls : List Call) (before after : List (Result Answer Refusal)) (b : Books) → m ≡ m' → length before ≡ length calls → Replayed m calls before after b → after ≡ answers_from m' None calls
+answers-are : (m m' : Meaning) (calls : List Call) (before after : List (Result Answer Refusal)) (b : Option Books) → m ≡ m' → length before ≡ length calls → Replayed m calls before after b → after ≡ answers_from m' None calls
 answers-are m m' calls before after b e l r =
     r.answered ∙ ap (λ xs. answers_from m None calls ++ xs) (drop_all (length calls) before (omega (arith, l))) ∙ append-nil (answers_from m None calls)
     ∙ ap (λ z. answers_from z None calls) e
