@@ -11,7 +11,8 @@ use refusals::{Fault, Refusal};
 // The most groups that a number of a sheet file may have.
 pub const MOST_GROUPS: usize = 6;
 
-// Reads the number that begins at a place: its value, and the place behind it.
+// Reads the number that begins at a place: its value, and the place behind it. The place stands beside the bytes, here
+// and in writing, since refusals tell it and callers go on from it.
 pub fn read_number(bytes: &[u8], at: usize) -> Result<(u64, usize), Fault>
     ensures value { result ≡ read_at bytes.now at }
     ensures exact { ReadsExactly bytes.now at result }

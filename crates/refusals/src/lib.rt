@@ -134,7 +134,7 @@ impl fmt::Display for UnknownNumber {
 
 impl Error for UnknownNumber {}
 
-// The refusal that has a number.
+// The refusal that has a number. Spelled out: the library has no derive that leads from a number to its case.
 impl TryFrom<u8> for Refusal {
     type Error = UnknownNumber;
 

@@ -8,7 +8,8 @@ pub mod moves;
 mod size;
 
 // The oldest element is at `head`, and the others follow it, from the end of the places to their start.
-// No Model: callers speak of the list held and of the room, each by itself, and a Model shows one value.
+// Lent places, and no VecDeque: no heap is used here, since C calls it. No Model: callers speak of the list held and of
+// the room, each by itself, and a record of the two would only stand before each.
 #[derive(Drop)]
 pub struct Ring<'a, T: Copy> {
     places: &'a mut [T],

@@ -11,7 +11,8 @@ use sources::checks::{HIGHEST_CEILING, MOST_CARRIERS, MOST_JOBS};
 use sources::form::{Entry, Heading};
 use std::ops::RangeBounds;
 
-// Bytes, and the place in them where the next part begins. A read that is refused leaves the place where it was.
+// Bytes, and the place in them where the next part begins, which refusals tell. A read that is refused leaves it where
+// it was. Numbers become jobs and counts by `as`: the check proves that no bits are lost.
 #[derive(Clone, Copy)]
 pub(crate) struct Reader<'a> {
     bytes: &'a [u8],

@@ -39,7 +39,7 @@ fn survey(bytes: &[u8], starts: usize, room: usize) -> Result<Heading, Fault>
 }
 
 // Loads a whole file into the tables, and gives its heading. Where it is refused, the tables stay as they were.
-// Starts and entries are two parameters, here and below: the caller lends each of its tables to each call.
+// Starts and entries are two parameters in this crate: the caller lends each of its tables to each call.
 pub fn load(bytes: &[u8], starts: &mut [usize], entries: &mut [Entry]) -> Result<Heading, Fault>
     ensures answer { result ≡ heading_answer (loaded bytes.now (length starts.old) (length entries.old)) }
     ensures starts { starts.new ≡ starts_after bytes.now starts.old (length entries.old) }

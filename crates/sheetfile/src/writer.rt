@@ -17,6 +17,7 @@ use sources::asking::{entries, heading_of};
 use sources::checks::within_limits;
 use sources::source::Source;
 
+// Puts a number. Jobs and counts become numbers by `as`: the check proves that no bits are lost.
 fn put_number(output: &mut Output<'_>, n: u64)
     requires { n < 2 ^ 42 }
     ensures { Puts output.old output.new (encoded n) }

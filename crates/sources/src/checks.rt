@@ -42,7 +42,7 @@ fn in_order(starts: &[usize], entries: &[Entry], k: usize) -> bool
     starts.contains(&k) || k > 0 && entries[k - 1].job < entries[k].job
 }
 
-// What the first bad entry is refused for.
+// What the first bad entry is refused for. An Option, and no Result: the invariant of `Sheet` names this answer.
 fn entry_refusal(heading: Heading, starts: &[usize], entries: &[Entry]) -> Option<Refusal>
     ensures { result ≡ entry_refusal heading starts.now entries.now }
 {
