@@ -1,6 +1,6 @@
 #![tactic(auto)]
 
-use anyhow::anyhow;
+use anyhow::ensure;
 use inspection::{MOST_BYTES, inspect_sheet};
 use std::io::Read;
 
@@ -12,8 +12,6 @@ fn main(rt: HostRuntime) -> anyhow::Result<()> {
         .read_to_end(&mut bytes)?;
     let printed = inspect_sheet(rt.alloc(), &bytes)?;
     rt.print(printed.text.as_str())?;
-    match printed.refused {
-        Some(_) => Err(anyhow!("refused")),
-        None => Ok(()),
-    }
+    ensure!(printed.refused.is_none(), "refused");
+    Ok(())
 }

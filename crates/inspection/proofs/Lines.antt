@@ -1,5 +1,6 @@
 -- Lines that are added one behind the other.
-use Rattle.std.proofs.Common.{◌≡◌, ℕ, suc, ◌+◌, ◌*◌, ◌<◌, ◌≤◌, true, ◌||◌, List, [], ◌∷◌, ◌++◌, length, get_or, take, Ok, Err, Result, sym, ap, ◌∙◌, subst, arith}
+use Rattle.std.proofs.Common.{◌≡◌, ℕ, suc, ◌+◌, ◌*◌, ◌<◌, ◌≤◌, true, ◌||◌, List, [], ◌∷◌, ◌++◌, length, get_or, take, Ok, Err, Result, is_ok, sym, ap, ◌∙◌, subst, arith}
+use Rattle.std.proofs.lemmas.Bool.{false≢true}
 use Rattle.std.proofs.lemmas.List.{append_assoc, append-nil, length-take-le, take_more}
 use Rattle.std.proofs.ByRecursion.{All-from_get_or, All-take}
 use Rattle.std.specs.List.{AllByRecursion}
@@ -53,6 +54,6 @@ entries_few m s jobs carriers i inside =
     omega (arith, few (take i m.rows) (All-take (λ row. length row ≤ 256) i m.rows rows), length-take-le i m.rows (omega arith))
 
 -- what a load that succeeded tells
-pub loaded-told : (P : Result Meaning Fault → Type 0) (r : Result Meaning Fault) (old now : Meaning) → Ok tt ≡ without_value r → now ≡ updated r old (λ m. m) → P (Ok now) → P r
-loaded-told P (Err e) old now ok is p = absurd (let z : ◌≡◌ {A = ℕ} 0 1 = cc in omega arith)
+pub loaded-told : (P : Result Meaning Fault → Type 0) (r : Result Meaning Fault) (old now : Meaning) → is_ok (without_value r) ≡ true → now ≡ updated r old (λ m. m) → P (Ok now) → P r
+loaded-told P (Err e) old now ok is p = absurd (false≢true ok)
 loaded-told P (Ok m) old now ok is p = subst (λ x. P (Ok x)) is p

@@ -1,10 +1,9 @@
 // What `inspect` prints of a sheet file.
 #![tactic(auto)]
 
-ghost use Rattle.std.specs.Prelude.{◌≡◌, ◌≤◌, ◌++◌, length, IfOk, OnOk, Ok, string_bytes};
-ghost use Rattle.inspection.specs.Inspected.{Tells, TellsFault, inspected};
-ghost use Rattle.inspection.specs.Listing.{row_line};
-ghost use Rattle.sheetfile.specs.Reading.{loaded};
+ghost use Rattle.std.specs.Prelude.{◌≡◌, ◌++◌, length, IfOk, OnOk, string_bytes};
+ghost use Rattle.inspection.specs.Inspected.{Lists, Tells, inspected};
+ghost use Rattle.inspection.specs.Listing.{row_line, sheet_text};
 ghost use Rattle.sources.specs.Meaning.{row_of};
 ghost use Rattle.sources.specs.OfSheet.{sheet_meaning};
 
@@ -16,7 +15,7 @@ use sources::form::{Entry, Heading};
 use sources::sheet::Sheet;
 use sources::source::Source;
 use std::alloc::{AllocError, Global};
-use texts::Printed;
+use texts::{Failure, Printed};
 
 // The most bytes that are inspected, and the most entries of a sheet that is.
 pub use sheetfile::whole::{MOST_BYTES, MOST_ENTRIES};
@@ -26,51 +25,28 @@ pub use sheetfile::whole::{MOST_BYTES, MOST_ENTRIES};
 pub fn inspect_sheet(heap: Global, bytes: &[u8]) -> Result<Printed<Fault>, AllocError>
     ensures { IfOk result (λ p. Tells p (length bytes.now) (inspected bytes.now)) }
 {
+    Printed::telling(heap, "refused ", listed(heap, bytes))
+}
+
+// The lines of a sheet file, which is loaded and written again before it is listed.
+fn listed(heap: Global, bytes: &[u8]) -> Result<String, Failure<Fault>>
+    ensures { Lists (length bytes.now) (inspected bytes.now) result }
+{
     if bytes.len() > MOST_BYTES {
-        return refused(heap, Fault::bare(Refusal::TooShort));
+        return Err(Failure::Refused(Fault::bare(Refusal::TooShort)));
     }
     let mut starts = [0usize; MOST_STARTS];
     let mut entries = [Entry { job: 0, worth: 0 }; MOST_ENTRIES];
     let mut out = [0u8; MOST_BYTES];
-    rewrite_and_list(heap, bytes, &mut starts, &mut entries, &mut out)
-}
-
-// Loads some bytes as a sheet file, writes it again where there is room for it, and lists what it holds.
-fn rewrite_and_list(
-    heap: Global,
-    bytes: &[u8],
-    starts: &mut [usize],
-    entries: &mut [Entry],
-    out: &mut [u8],
-) -> Result<Printed<Fault>, AllocError>
-    requires { length bytes.now ≤ length out.old }
-    ensures { IfOk result (λ p. Tells p (length bytes.now) (loaded bytes.now (length starts.old) (length entries.old))) }
-{
-    match rewrite(bytes, starts, entries, out) {
-        Ok(_) => list_file(heap, bytes, starts, entries),
-        Err(fault) => refused(heap, fault),
-    }
-}
-
-// Loads some bytes as a sheet file, and lists what it holds.
-fn list_file<'a>(
-    heap: Global,
-    bytes: &[u8],
-    starts: &'a mut [usize],
-    entries: &'a mut [Entry],
-) -> Result<Printed<Fault>, AllocError>
-    ensures { IfOk result (λ p. Tells p (length bytes.now) (loaded bytes.now (length starts.old) (length entries.old))) }
-{
+    rewrite(bytes, &mut starts, &mut entries, &mut out).map_err(Failure::Refused)?;
     let mut sheet = Sheet::new();
-    match load_sheet(bytes, starts, entries, &mut sheet) {
-        Ok(()) => list_sheet(heap, &sheet, bytes.len()),
-        Err(fault) => refused(heap, fault),
-    }
+    load_sheet(bytes, &mut starts, &mut entries, &mut sheet).map_err(Failure::Refused)?;
+    Ok(list_sheet(heap, &sheet, bytes.len())?)
 }
 
-// What is printed of a sheet that has so many bytes.
-fn list_sheet(heap: Global, sheet: &Sheet<'_>, size: usize) -> Result<Printed<Fault>, AllocError>
-    ensures { IfOk result (λ p. Tells p size (Ok (sheet_meaning sheet.now))) }
+// The lines of a sheet that has so many bytes.
+fn list_sheet(heap: Global, sheet: &Sheet<'_>, size: usize) -> Result<String, AllocError>
+    ensures { IfOk result (λ text. string_bytes text ≡ sheet_text (sheet_meaning sheet.now) size) }
 {
     let Heading {
         carriers,
@@ -88,10 +64,7 @@ fn list_sheet(heap: Global, sheet: &Sheet<'_>, size: usize) -> Result<Printed<Fa
         text,
         "{count} entries in {size} bytes, the same when written again"
     )?;
-    Ok(Printed {
-        text,
-        refused: None,
-    })
+    Ok(text)
 }
 
 // Adds the line of a carrier to a text.
@@ -103,13 +76,6 @@ fn append_row<S: Source>(text: &mut String, source: &S, carrier: usize) -> Resul
         write!(text, " {job}={worth}")?;
     }
     writeln!(text)
-}
-
-// What is printed of a file that is refused.
-fn refused(heap: Global, fault: Fault) -> Result<Printed<Fault>, AllocError>
-    ensures { IfOk result (λ p. TellsFault p fault) }
-{
-    Printed::refusing(heap, format_args!("refused {fault}"), fault)
 }
 
 #[cfg(test)]

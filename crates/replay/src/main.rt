@@ -1,6 +1,6 @@
 #![tactic(auto)]
 
-use anyhow::{Context, anyhow};
+use anyhow::{Context, ensure};
 use replaying::log::{MOST_LOG_BYTES, Trouble};
 use replaying::replay_log;
 use sheetfile::whole::MOST_BYTES;
@@ -29,8 +29,6 @@ fn replayed(rt: &HostRuntime) -> anyhow::Result<Printed<Trouble>> {
 fn main(rt: HostRuntime) -> anyhow::Result<()> {
     let printed = replayed(&rt)?;
     rt.print(printed.text.as_str())?;
-    match printed.refused {
-        Some(_) => Err(anyhow!("nothing was replayed")),
-        None => Ok(()),
-    }
+    ensure!(printed.refused.is_none(), "nothing was replayed");
+    Ok(())
 }

@@ -13,8 +13,9 @@ use Rattle.std.specs.List.{enumerate_from}
 use Rattle.std.specs.Slice.Iter.{split_callee, split_done, split_rest, split_steps}
 use denote.Param.Members.{Mut}
 use denote.Ref.{Bor}
-use Rattle.replaying.specs.declared.log.Failure.{Failure}
-use Rattle.replaying.specs.declared.log.Failure.TheVariants.{Memory, Trouble as Troubled}
+use Rattle.texts.specs.declared.Failure.{Failure}
+use Rattle.texts.specs.declared.Failure.TheVariants.{Memory, Refused}
+use Rattle.replaying.specs.declared.log.Trouble.{Trouble}
 use Rattle.replaying.specs.declared.log.Trouble.TheVariants.{Line}
 use Rattle.replaying.specs.Logs.{Asked, Notes, Reads, asked_from, asked_in, noted_by, nothing_asked, or_line}
 use Rattle.replaying.specs.Parts.{lines_of}
@@ -58,9 +59,9 @@ module _ (lines : List (List ℕ)) (k : ℕ) (a : Asked) (line : List ℕ) (here
   asked_on n b e h = ap (λ m. asked_from (m + 1) b (drop m lines)) e ∙ sym (ap (asked_from (k + 1) a) here ∙ asked_more (k + 1) a b line (drop (k + 1) lines) h)
 
   -- it is not, or memory ran out
-  pub read_err : (text : List ℕ) (i : ℕ) (new : Asked) (e : Failure) → i ≡ k → asked_in text ≡ asked_from (k + 1) a (drop k lines) → Notes (i + 1) (noted_by line a) new (Err e) → Reads (asked_in text) (Err e)
+  pub read_err : (text : List ℕ) (i : ℕ) (new : Asked) (e : Failure Trouble) → i ≡ k → asked_in text ≡ asked_from (k + 1) a (drop k lines) → Notes (i + 1) (noted_by line a) new (Err e) → Reads (asked_in text) (Err e)
   read_err text i new Memory z is h = tt
-  read_err text i new (Troubled t) z is h = is ∙ ap (asked_from (k + 1) a) here ∙ asked_bad (k + 1) a line (drop (k + 1) lines) h.0 ∙ ap (λ n. Err (Line (n + 1))) (sym z) ∙ ap Err (sym h.1)
+  read_err text i new (Refused t) z is h = is ∙ ap (asked_from (k + 1) a) here ∙ asked_bad (k + 1) a line (drop (k + 1) lines) h.0 ∙ ap (λ n. Err (Line (n + 1))) (sym z) ∙ ap Err (sym h.1)
 
 -- a log that is short enough
 pub asked_short : (text : List ℕ) → length text ≤ 65536 → asked_in text ≡ asked_from 1 nothing_asked (lines_of text)

@@ -5,12 +5,12 @@ use Rattle.refusals.specs.declared.Refusal.TheVariants.{TooShort}
 use Rattle.sources.specs.Layers.{floor_of, times_of}
 use Rattle.sources.specs.Meaning.{Meaning}
 use Rattle.auction.specs.declared.call.Call.{Call}
+use Rattle.texts.specs.declared.Failure.{Failure}
+use Rattle.texts.specs.declared.Failure.TheVariants.{Memory, Refused}
 use Rattle.replaying.specs.declared.line.Layer.{Layer}
 use Rattle.replaying.specs.declared.line.Layer.TheVariants.{Times, Floor}
 use Rattle.replaying.specs.declared.line.Said.{Said}
 use Rattle.replaying.specs.declared.line.Said.TheVariants.{Skip, Put, Make}
-use Rattle.replaying.specs.declared.log.Failure.{Failure}
-use Rattle.replaying.specs.declared.log.Failure.TheVariants.{Memory, Trouble as Troubled}
 use Rattle.replaying.specs.declared.log.Layers.{Layers}
 use Rattle.replaying.specs.declared.log.Log.{Log}
 use Rattle.replaying.specs.declared.log.Trouble.{Trouble}
@@ -67,16 +67,16 @@ abbrev pub held_in : Log → Asked
 held_in log = record { layers = log.layers; calls = vec_items log.calls }
 
 -- What comes of taking in the line numbered n: what is asked then, or the line's number. Nothing is said where memory ran out.
-abbrev pub Notes : ℕ → Option Asked → Asked → Result (Unit {0}) Failure → Type 0
+abbrev pub Notes : ℕ → Option Asked → Asked → Result (Unit {0}) (Failure Trouble) → Type 0
 Notes n o new (Ok x) = o ≡ Some new
 Notes n o new (Err Memory) = Unit {0}
-Notes n o new (Err (Troubled t)) = (o ≡ None) × (t ≡ Line n)
+Notes n o new (Err (Refused t)) = (o ≡ None) × (t ≡ Line n)
 
 -- What comes of reading a log.
-abbrev pub Reads : Result Asked Trouble → Result Log Failure → Type 0
+abbrev pub Reads : Result Asked Trouble → Result Log (Failure Trouble) → Type 0
 Reads r (Ok log) = r ≡ Ok (held_in log)
 Reads r (Err Memory) = Unit {0}
-Reads r (Err (Troubled t)) = r ≡ Err t
+Reads r (Err (Refused t)) = r ≡ Err t
 
 -- A source under a layer, or under none.
 abbrev pub under : Option Layer → Meaning → Meaning

@@ -6,9 +6,9 @@ use Rattle.refusals.specs.Reasons.{refusal_text}
 use Rattle.sources.specs.Meaning.{Meaning}
 use Rattle.auction.specs.Calls.{answers_from}
 use Rattle.std.specs.declared.alloc.Global.{Global}
+use Rattle.texts.specs.declared.Failure.{Failure}
+use Rattle.texts.specs.declared.Failure.TheVariants.{Memory, Refused}
 use Rattle.texts.specs.declared.Printed.{Printed}
-use Rattle.replaying.specs.declared.log.Failure.{Failure}
-use Rattle.replaying.specs.declared.log.Failure.TheVariants.{Memory, Trouble as Troubled}
 use Rattle.replaying.specs.declared.log.Trouble.{Trouble}
 use Rattle.replaying.specs.declared.log.Trouble.TheVariants.{Calls, Line, Sheet}
 use Rattle.replaying.specs.Logs.{Asked, layered}
@@ -37,7 +37,7 @@ replayed (Ok a) (Err f) = Err (Sheet f)
 replayed (Ok a) (Ok m) = Ok (answer_lines a.calls (answers_from (layered a m) None a.calls))
 
 -- What comes of a replay. Nothing is said where memory ran out.
-abbrev pub Replays : Result (List ℕ) Trouble → Result (String Global) Failure → Type 0
+abbrev pub Replays : Result (List ℕ) Trouble → Result (String Global) (Failure Trouble) → Type 0
 Replays r (Ok text) = r ≡ Ok (string_bytes text)
 Replays r (Err Memory) = Unit {0}
-Replays r (Err (Troubled t)) = r ≡ Err t
+Replays r (Err (Refused t)) = r ≡ Err t

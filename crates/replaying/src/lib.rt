@@ -7,7 +7,7 @@ ghost use Rattle.replaying.specs.ReadBack.{ReadsBack};
 ghost use Rattle.sheetfile.specs.Reading.{loaded_within};
 ghost use Rattle.std.specs.Prelude.{IfOk};
 
-use crate::log::{Failure, Trouble, read_log};
+use crate::log::{Trouble, read_log};
 use crate::printing::append_lines;
 use crate::running::perform_layered;
 use auction::call::Answer;
@@ -15,7 +15,7 @@ use sheetfile::whole::{MOST_ENTRIES, MOST_STARTS, load_within};
 use sources::form::Entry;
 use sources::sheet::Sheet;
 use std::alloc::{AllocError, Global};
-use texts::Printed;
+use texts::{Failure, Printed};
 
 mod line;
 pub mod log;
@@ -30,18 +30,11 @@ pub fn replay_log(heap: Global, sheet: &[u8], text: &[u8]) -> Result<Printed<Tro
     ensures outcome { IfOk result (λ p. Tells p (asked_in text.now) (loaded_within sheet.now)) }
     ensures read_back { ReadsBack }
 {
-    match replayed(heap, sheet, text) {
-        Ok(text) => Ok(Printed {
-            text,
-            refused: None,
-        }),
-        Err(Failure::Trouble(trouble)) => Printed::refusing(heap, trouble, trouble),
-        Err(Failure::Memory) => Err(AllocError),
-    }
+    Printed::telling(heap, "", replayed(heap, sheet, text))
 }
 
 // The lines of a replay: each call with its answer.
-fn replayed(heap: Global, sheet: &[u8], text: &[u8]) -> Result<String, Failure>
+fn replayed(heap: Global, sheet: &[u8], text: &[u8]) -> Result<String, Failure<Trouble>>
     ensures { Replays (replayed (asked_in text.now) (loaded_within sheet.now)) result }
 {
     let log = read_log(heap, text)?;

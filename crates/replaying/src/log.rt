@@ -2,14 +2,15 @@
 ghost use Rattle.std.specs.Prelude.{◌≡◌, Some};
 ghost use Rattle.replaying.specs.Logs.{Notes, Reads, asked_in, held_in, layer_more, noted_by};
 ghost use Rattle.replaying.specs.Outcomes.{trouble_text};
-ghost use Rattle.replaying.specs.declared.log.Failure.TheVariants.{Memory, Trouble as Troubled};
+ghost use Rattle.texts.specs.declared.Failure.TheVariants.{Refused};
 
 use crate::line::{Layer, Said, said_in};
 use auction::call::Call;
 use refusals::{Fault, Refusal};
-use std::alloc::{AllocError, AllocFailed, Global};
+use std::alloc::Global;
 use std::error::Error;
 use std::fmt;
+use texts::Failure;
 
 // The most bytes of a log.
 pub const MOST_LOG_BYTES: usize = 65536;
@@ -40,34 +41,12 @@ impl fmt::Display for Trouble {
 
 impl Error for Trouble {}
 
-// Why a step of a replay fails.
-#[derive(Clone, Copy)]
-pub(crate) enum Failure {
-    Memory,
-    Trouble(Trouble),
-}
+// What `?` makes of a trouble.
+impl From<Trouble> for Failure<Trouble> {
+    ghost from_gives = { λ t e. e ≡ Refused t };
 
-impl<T: Drop> From<AllocFailed<T>> for Failure {
-    ghost from_gives = { λ _ e. e ≡ Memory };
-
-    fn from(_failed: AllocFailed<T>) -> Failure {
-        Failure::Memory
-    }
-}
-
-impl From<AllocError> for Failure {
-    ghost from_gives = { λ _ e. e ≡ Memory };
-
-    fn from(_error: AllocError) -> Failure {
-        Failure::Memory
-    }
-}
-
-impl From<Trouble> for Failure {
-    ghost from_gives = { λ t e. e ≡ Troubled t };
-
-    fn from(trouble: Trouble) -> Failure {
-        Failure::Trouble(trouble)
+    fn from(trouble: Trouble) -> Failure<Trouble> {
+        Failure::Refused(trouble)
     }
 }
 
@@ -107,7 +86,7 @@ pub(crate) struct Log {
 
 impl Log {
     // Takes in the line of this number.
-    fn note(&mut self, number: usize, line: &[u8]) -> Result<(), Failure>
+    fn note(&mut self, number: usize, line: &[u8]) -> Result<(), Failure<Trouble>>
         ensures { Notes number (noted_by line.now (held_in self.old)) (held_in self.new) result }
     {
         let unread = Trouble::Line(number);
@@ -122,7 +101,7 @@ impl Log {
 }
 
 // Reads a log to its end, or to its first bad line. One of more than 65,536 bytes is refused before any is read.
-pub(crate) fn read_log(heap: Global, text: &[u8]) -> Result<Log, Failure>
+pub(crate) fn read_log(heap: Global, text: &[u8]) -> Result<Log, Failure<Trouble>>
     ensures { Reads (asked_in text.now) result }
 {
     if text.len() > MOST_LOG_BYTES {

@@ -2,8 +2,10 @@
 #![tactic(auto)]
 
 ghost use Rattle.std.specs.Prelude.{◌≡◌, [], ◌∷◌, ◌++◌, IfSome, IfOk, Some, string_bytes, OnOk};
+ghost use Rattle.texts.specs.Telling.{Telling};
+ghost use Rattle.texts.specs.declared.Failure.TheVariants.{Memory};
 
-use std::alloc::{AllocError, Global};
+use std::alloc::{AllocError, AllocFailed, Global};
 use std::fmt::Display;
 
 // Adds to a text what a value shows. It fails only for want of memory; what the text holds then is left open.
@@ -11,6 +13,30 @@ pub fn append<D: Display + Drop>(text: &mut String, value: D) -> Result<(), Allo
     ensures { OnOk result (IfSome (D.output value) (λ bs. string_bytes text.new ≡ string_bytes text.old ++ bs)) }
 {
     text.write(value)
+}
+
+// Why no text is made: for want of memory, or since what was given is refused. A refusal is put in by
+// `map_err(Failure::Refused)`: a conversion from every E would be a second one from AllocError.
+#[derive(Drop)]
+pub enum Failure<E> {
+    Memory,
+    Refused(E),
+}
+
+impl<E> From<AllocError> for Failure<E> {
+    ghost from_gives = { λ _ e. e ≡ Memory };
+
+    fn from(_error: AllocError) -> Failure<E> {
+        Failure::Memory
+    }
+}
+
+impl<E, T: Drop> From<AllocFailed<T>> for Failure<E> {
+    ghost from_gives = { λ _ e. e ≡ Memory };
+
+    fn from(_failed: AllocFailed<T>) -> Failure<E> {
+        Failure::Memory
+    }
 }
 
 // What a call prints, and why it refused what it was given, if it did.
@@ -36,5 +62,52 @@ impl<E: Drop> Printed<E> {
             text,
             refused: Some(refused),
         })
+    }
+}
+
+impl<E: Display + Copy> Printed<E> {
+    // What came of making a text: the text, or the line of a refusal, with this word in front of what it shows. It fails
+    // only for want of memory.
+    pub fn telling(
+        heap: Global,
+        word: &str,
+        made: Result<String, Failure<E>>,
+    ) -> Result<Self, AllocError>
+        ensures { Telling E.output word.now made result }
+    {
+        match made {
+            Ok(text) => Ok(Printed {
+                text,
+                refused: None,
+            }),
+            Err(Failure::Memory) => Err(AllocError),
+            Err(Failure::Refused(refused)) => {
+                Printed::refusing(heap, format_args!("{word}{refused}"), refused)
+            }
+        }
+    }
+}
+
+#[cfg(test)]
+mod tests {
+    use super::*;
+    use std::test::Fail;
+
+    #[test]
+    fn a_text_is_told_as_it_is(rt: HostRuntime) -> Result<(), Fail> {
+        let mut text = String::new(rt.alloc());
+        append(&mut text, 5u8)?;
+        let printed = Printed::<u8>::telling(rt.alloc(), "refused ", Ok(text))?;
+        assert_eq!(rt; printed.text.as_str(), "5");
+        assert_eq!(rt; printed.refused, None);
+        Ok(())
+    }
+
+    #[test]
+    fn a_refusal_is_told_by_its_line(rt: HostRuntime) -> Result<(), Fail> {
+        let printed = Printed::telling(rt.alloc(), "refused ", Err(Failure::Refused(7u8)))?;
+        assert_eq!(rt; printed.text.as_str(), "refused 7\n");
+        assert_eq!(rt; printed.refused, Some(7));
+        Ok(())
     }
 }

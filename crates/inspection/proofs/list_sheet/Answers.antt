@@ -1,4 +1,4 @@
-use Rattle.std.proofs.Common.{◌≡◌, ◌<◌, ◌≤◌, ◌++◌, length, take, string_bytes, refl, ap, ◌∙◌, arith}
+use Rattle.std.proofs.Common.{◌≡◌, ◌<◌, ◌≤◌, ◌++◌, length, take, string_bytes, ap, ◌∙◌, arith}
 use Rattle.std.proofs.lemmas.List.{append_assoc, take_all}
 use Rattle.sources.specs.Laws.SheetSound.{sheet_sound}
 use Rattle.sources.specs.Meaning.{Sound, row_of}
@@ -36,11 +36,9 @@ returns c =
     let m = sheet_meaning s in
     let sound : Sound m = sheet_sound s.heading s.starts.now s.entries.now s.limited s.started s.faultless in
     let all : take c.loop-i.i m.rows ≡ m.rows = take_all c.loop-i.i m.rows (omega (arith, sound.counted, ap (λ h. h.carriers) c.heading_of-carriers.ensures, c.loop-i-test.false)) in
-    let line = ap (λ h. heading_line (record { carriers = h.carriers; jobs = h.jobs; ceiling = h.ceiling; rows = m.rows })) c.heading_of-carriers.ensures in (
-      assembled (string_bytes c.new-text.result) (string_bytes c.writeln.new.self) (string_bytes c.loop-i.text) (string_bytes c.writeln-2.new.self) (heading_line m) (row_lines 0 m.rows) (last_line (entries_in m.rows) c.args.size)
-          c.new-text.ensures.bytes
-          (c.in_ok-writeln.ensures.bytes ∙ ap (λ bs. string_bytes c.new-text.result ++ bs) line)
-          (c.loop-i.invariant.1 ∙ ap (λ rows. string_bytes c.writeln.new.self ++ row_lines 0 rows) all)
-          (c.in_ok-writeln-2.ensures.bytes ∙ ap (λ n. string_bytes c.loop-i.text ++ last_line n c.args.size) (c.loop-i.invariant.0 ∙ ap entries_in all)),
-      refl,
-    )
+    let line = ap (λ h. heading_line (record { carriers = h.carriers; jobs = h.jobs; ceiling = h.ceiling; rows = m.rows })) c.heading_of-carriers.ensures in
+    assembled (string_bytes c.new-text.result) (string_bytes c.writeln.new.self) (string_bytes c.loop-i.text) (string_bytes c.writeln-2.new.self) (heading_line m) (row_lines 0 m.rows) (last_line (entries_in m.rows) c.args.size)
+    c.new-text.ensures.bytes
+    (c.in_ok-writeln.ensures.bytes ∙ ap (λ bs. string_bytes c.new-text.result ++ bs) line)
+    (c.loop-i.invariant.1 ∙ ap (λ rows. string_bytes c.writeln.new.self ++ row_lines 0 rows) all)
+    (c.in_ok-writeln-2.ensures.bytes ∙ ap (λ n. string_bytes c.loop-i.text ++ last_line n c.args.size) (c.loop-i.invariant.0 ∙ ap entries_in all))
