@@ -32,14 +32,14 @@ take-freed n ss (Some j) = take_set_any n ss j Waiting
 
 -- Books with equal fields are equal: the ghost field is a fact.
 pub same_books : (a b : Books) → a.noted ≡ b.noted → a.step ≡ b.step → a.lanes ≡ b.lanes → a.lots ≡ b.lots → a.standings ≡ b.standings → a.counts ≡ b.counts → a ≡ b
-same_books a b e2 e3 e4 e5 e6 e7 = λ i. record {
-  noted = e2 i;
-  step = e3 i;
-  lanes = e4 i;
-  lots = e5 i;
-  standings = e6 i;
-  counts = e7 i;
-  kept = is_prop→PathP (λ j. ∥ Kept (e2 j) (e3 j) (e4 j) (e5 j) (e6 j) (e7 j) ∥₁) (λ j. ∥∥₁_prop) a.kept b.kept i;
+same_books a b e1 e2 e3 e4 e5 e6 = λ i. record {
+  noted = e1 i;
+  step = e2 i;
+  lanes = e3 i;
+  lots = e4 i;
+  standings = e5 i;
+  counts = e6 i;
+  kept = is_prop→PathP (λ j. ∥ Kept (e1 j) (e2 j) (e3 j) (e4 j) (e5 j) (e6 j) ∥₁) (λ j. ∥∥₁_prop) a.kept b.kept i;
 }
 
 -- What is consistent by the numbers that start noted is so by those of the source, and the other way.

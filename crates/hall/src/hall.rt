@@ -51,10 +51,10 @@ impl<S: Source> Hall<S> {
         ensures ruled { Ruled (summon_answer carrier) (summon_tally carrier) (S.meaning self.old.source) self.old.books self.new.books result }
         ensures kept { self.new.source ≡ self.old.source }
     {
-        let Some(books) = &mut self.books else {
-            return Err(Refusal::NeverStarted);
-        };
-        books.summon(&self.source, carrier)
+        self.books
+            .as_mut()
+            .ok_or(Refusal::NeverStarted)?
+            .summon(&self.source, carrier)
     }
 
     // Takes the next lanes entries of a bidding carrier's row, or as many as are left, at the prices now.
@@ -64,10 +64,10 @@ impl<S: Source> Hall<S> {
         ensures looks { OnOk result (Between (Looks (S.meaning self.old.source) carrier) (tally_of (S.meaning self.old.source) self.old.books) (tally_of (S.meaning self.old.source) self.new.books)) }
         ensures kept { self.new.source ≡ self.old.source }
     {
-        let Some(books) = &mut self.books else {
-            return Err(Refusal::NeverStarted);
-        };
-        books.look(&self.source, carrier)
+        self.books
+            .as_mut()
+            .ok_or(Refusal::NeverStarted)?
+            .look(&self.source, carrier)
     }
 
     // Ends a bid whose row is fully looked at: out, stale or awarded.
@@ -76,10 +76,10 @@ impl<S: Source> Hall<S> {
         ensures ruled { Ruled (settle_answer carrier) (settle_tally carrier) (S.meaning self.old.source) self.old.books self.new.books result }
         ensures kept { self.new.source ≡ self.old.source }
     {
-        let Some(books) = &mut self.books else {
-            return Err(Refusal::NeverStarted);
-        };
-        books.settle(&self.source, carrier)
+        self.books
+            .as_mut()
+            .ok_or(Refusal::NeverStarted)?
+            .settle(&self.source, carrier)
     }
 
     // Makes summonses, looks and settles by its rule, until nobody waits or bids or the budget is used up, and answers how many of each it made.
@@ -89,10 +89,10 @@ impl<S: Source> Hall<S> {
         ensures reported { IfOk result (λ p. Between (λ t u. Reports budget t u p) (tally_of (S.meaning self.old.source) self.old.books) (tally_of (S.meaning self.old.source) self.new.books)) }
         ensures kept { self.new.source ≡ self.old.source }
     {
-        let Some(books) = &mut self.books else {
-            return Err(Refusal::NeverStarted);
-        };
-        books.run(&self.source, depth, budget)
+        self.books
+            .as_mut()
+            .ok_or(Refusal::NeverStarted)?
+            .run(&self.source, depth, budget)
     }
 
     // The books, if the hall was started.
