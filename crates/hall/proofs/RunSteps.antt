@@ -1,23 +1,20 @@
 -- What the calls of a run leave, where the books noted what the source means.
-use Rattle.std.proofs.Common.{◌≡◌, ℕ, zero, suc, ◌+◌, ◌-◌, ◌<◌, ◌≤◌, Bool, true, false, cond, ◌&&◌, eqb, ltb, List, [], ◌∷◌, ◌++◌, length, get_or, take, Some, Ok, Option, Result, sym, refl, ap, ◌∙◌, subst, arith}
-use Rattle.std.specs.Option.{option_to_list}
+use Rattle.std.proofs.Common.{◌≡◌, ℕ, zero, suc, ◌+◌, ◌-◌, ◌<◌, ◌≤◌, Bool, true, false, cond, ◌&&◌, eqb, ltb, List, [], ◌∷◌, ◌++◌, length, get_or, take, Some, Ok, Result, sym, refl, ap, ◌∙◌, subst, arith}
 use Rattle.std.proofs.lemmas.List.{take_more, length-take-le}
 use Rattle.std.proofs.lemmas.Bool.{and_parts, and_left, both_ways, eqb-true, ne_eqb, lt-ltb, cond-true}
 use Rattle.sources.specs.Meaning.{Meaning, Sound, row_of}
 use Rattle.sources.specs.Tables.{heading_of}
 use Rattle.refusals.specs.declared.Refusal.{Refusal}
-use Rattle.auction.specs.declared.standing.Act.TheVariants.{Summon, Look}
 use Rattle.auction.specs.declared.standing.Counts.{Counts}
 use Rattle.auction.specs.declared.standing.Ending.{Ending}
 use Rattle.auction.specs.declared.standing.Ending.TheVariants.{Done, Spent}
 use Rattle.auction.specs.declared.standing.InFlight.{InFlight}
 use Rattle.auction.specs.declared.standing.Report.{Report}
-use Rattle.auction.specs.declared.standing.Verdict.{Verdict}
 use Rattle.auction.specs.declared.standing.Standing.{Standing}
 use Rattle.auction.specs.declared.standing.Standing.TheVariants.{Waiting, Bidding, Served, Out}
 use Rattle.auction.specs.Consistent.{Consistent}
-use Rattle.auction.specs.Rules.{between, called, settle_answer, settle_tally}
-use Rattle.auction.specs.Runs.{RunState, in_flight, looks_for, gathered, if_waiting, if_bidding, beginning, waits_after, joins_line, first_acts, step_by, one_step, many_steps, ending_of, since, report_of, run_report, Reports, run_answer, ran, run_tally}
+use Rattle.auction.specs.Rules.{between}
+use Rattle.auction.specs.Runs.{RunState, gathered, if_waiting, if_bidding, beginning, first_acts, step_by, one_step, many_steps, ending_of, since, report_of, run_report, Reports, run_answer, ran, run_tally}
 use Rattle.auction.specs.InOrder.{Ordered, Grown}
 use Rattle.sources.proofs.Reading.{row_length}
 use Rattle.auction.proofs.Queues.{gathered_more, gathered_short}
@@ -28,7 +25,6 @@ use Rattle.hall.specs.declared.books.queues.Queues.{Queues}
 use Rattle.hall.specs.InBooks.{NotedOf, tally_in}
 use Rattle.hall.specs.Ruled.{Ruled}
 use Rattle.hall.specs.RunSteps.{state_of, Became}
-use Rattle.auction.proofs.Matching.{some_same}
 use Rattle.hall.proofs.Tables.{consistent_in, renoted}
 
 -- ---- a row has no more entries than there are jobs
@@ -45,36 +41,6 @@ consistent_for m b o = renoted b.noted (heading_of m) (tally_in b) o (consistent
 
 same_state : (r q : RunState) → r.line ≡ q.line → r.flight ≡ q.flight → r.tally ≡ q.tally → r.steps ≡ q.steps → r ≡ q
 same_state r q a b c d = λ i. record { line = a i; flight = b i; tally = c i; steps = d i }
-
--- The books and queues after a call and a step.
-module _ (m : Meaning) (old new : Books) (q q' : Queues) (ready : NotedOf m new) where
-  pub first_summoned : (i n : ℕ) → Some (tally_in new) ≡ Some (called m i Summon (tally_in old)) → n ≡ looks_for old.lanes (length (row_of m i)) → held q'.line ≡ held q.line →
-      held q'.flight ≡ held q.flight ++ in_flight i n ∷ [] → Became m (λ k. step_by m true (i ∷ held q.line) (held q.flight) (tally_in old) k) new q'
-  first_summoned i n t l e f =
-      record { ready = ready; made = λ k. same_state (state_of new q' (k + 1)) _ e (f ∙ ap (λ z. held q.flight ++ in_flight i z ∷ []) l) (some_same t) refl }
-
-  pub first_looked : (i n : ℕ) → 0 < n → Some (tally_in new) ≡ Some (called m i Look (tally_in old)) → held q'.line ≡ held q.line →
-      held q'.flight ≡ held q.flight ++ in_flight i (n - 1) ∷ [] → Became m (λ k. first_acts m i n (held q.line) (held q.flight) (tally_in old) k) new q'
-  first_looked i zero l t e f = absurd (omega arith)
-  first_looked i (suc n) l t e f =
-      record {
-        ready = ready;
-        made = λ k. same_state (state_of new q' (k + 1)) (first_acts m i (suc n) (held q.line) (held q.flight) (tally_in old) k) e
-            (f ∙ ap (λ z. held q.flight ++ in_flight i z ∷ []) (omega arith)) (some_same t) refl;
-      }
-
-  pub first_settled : (i n : ℕ) (r : Result Verdict Refusal) → n ≤ 0 → Some (tally_in new) ≡ settle_tally i m (Some (tally_in old)) → r ≡ settle_answer i m (Some (tally_in old)) →
-      held q'.line ≡ held q.line ++ joins_line i r → held q'.flight ≡ held q.flight → Became m (λ k. first_acts m i n (held q.line) (held q.flight) (tally_in old) k) new q'
-  first_settled i zero r l t w e f =
-      record {
-        ready = ready;
-        made = λ k. same_state (state_of new q' (k + 1)) (first_acts m i 0 (held q.line) (held q.flight) (tally_in old) k)
-            (e ∙ ap (λ z. held q.line ++ joins_line i z) w) f (some_same t) refl;
-      }
-  first_settled i (suc n) r l t w e f = absurd (omega arith)
-
-pub waits_told : (i : ℕ) (v : Verdict) (o : Option ℕ) (line line' : List ℕ) → o ≡ waits_after i v → line' ≡ line ++ option_to_list o → line' ≡ line ++ joins_line i (Ok v)
-waits_told i v o line line' e h = h ∙ ap (λ z. line ++ option_to_list z) e
 
 -- A step takes the line's first or the flight's first. Between the two, q' are the queues without it.
 module _ (m : Meaning) (depth : ℕ) (old new : Books) (q q' q'' : Queues) where
