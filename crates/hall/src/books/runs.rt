@@ -52,7 +52,7 @@ fn waits_after(carrier: usize, verdict: Verdict) -> Option<usize>
 impl Books {
     // Summons the line's first, which joins the flight's end.
     fn summon_first<S: Source>(&mut self, source: &S, carrier: usize, queues: &mut Queues<'_>)
-        requires open { NotedOf (S.meaning source.now) self.old }
+        requires noted { NotedOf (S.meaning source.now) self.old }
         requires place { length (held queues.old.flight) < 128 }
         ensures { Became (S.meaning source.now) (λ n. step_by (S.meaning source.now) true (carrier ∷ held queues.old.line) (held queues.old.flight) (tally_in self.old) n) self.new queues.new }
     {
@@ -63,7 +63,7 @@ impl Books {
 
     // The flight's first is taken: with looks left it looks and goes to the flight's end; without, it settles, and a carrier that then waits joins the line's end.
     fn first_acts<S: Source>(&mut self, source: &S, first: InFlight, queues: &mut Queues<'_>)
-        requires open { NotedOf (S.meaning source.now) self.old }
+        requires noted { NotedOf (S.meaning source.now) self.old }
         requires line_place { length (held queues.old.line) < 128 }
         requires flight_place { length (held queues.old.flight) < 128 }
         ensures { Became (S.meaning source.now) (λ n. first_acts (S.meaning source.now) first.carrier first.looks_left (held queues.old.line) (held queues.old.flight) (tally_in self.old) n) self.new queues.new }
@@ -82,7 +82,7 @@ impl Books {
 
     // One step: if the flight is shorter than the depth and the line isn't empty, the line's first is summoned; otherwise the flight's first is taken.
     fn step<S: Source>(&mut self, source: &S, depth: usize, queues: &mut Queues<'_>)
-        requires open { NotedOf (S.meaning source.now) self.old }
+        requires noted { NotedOf (S.meaning source.now) self.old }
         requires ordered { Ordered (S.meaning source.now) (state_of self.old queues.old 0) }
         requires busy { 0 < length (held queues.old.line) + length (held queues.old.flight) }
         requires deep { 1 ≤ depth }
@@ -97,7 +97,7 @@ impl Books {
 
     // The flight begins with the bidding carriers and the line with the waiting ones, both ascending.
     fn begin<S: Source>(&self, source: &S, queues: &mut Queues<'_>)
-        requires open { NotedOf (S.meaning source.now) self.now }
+        requires noted { NotedOf (S.meaning source.now) self.now }
         requires nobody_waits { held queues.old.line ≡ [] }
         requires nobody_bids { held queues.old.flight ≡ [] }
         ensures { state_of self.now queues.new 0 ≡ beginning (S.meaning source.now) (tally_in self.now) }
@@ -122,7 +122,7 @@ impl Books {
         budget: u64,
         queues: &mut Queues<'_>,
     ) -> u64
-        requires open { NotedOf (S.meaning source.now) self.old }
+        requires noted { NotedOf (S.meaning source.now) self.old }
         requires ordered { Ordered (S.meaning source.now) (state_of self.old queues.old 0) }
         requires deep { 1 ≤ depth }
         ensures ready { NotedOf (S.meaning source.now) self.new }

@@ -30,7 +30,7 @@ looks_for-requires g c =
     record {
       some = k.some_lanes;
       few = k.few_lanes;
-      short = omega (arith, c.saturating_sub-entries.ensures, c.row_length.ensures, few_entries m (g.S.Source.sound c.args.source.now) c.args.self.now c.requires.open c.loop-carrier.carrier);
+      short = omega (arith, c.saturating_sub-entries.ensures, c.row_length.ensures, few_entries m (g.S.Source.sound c.args.source.now) c.args.self.now c.requires.noted c.loop-carrier.carrier);
     }
 
 pub loop-carrier-preserved : goal.loop-carrier-preserved

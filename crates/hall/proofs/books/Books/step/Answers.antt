@@ -21,7 +21,7 @@ first_acts-requires g c =
     let f = ap length c.in_default.ensures.bids in
     let l' = ap length c.in-Some-next_to_act.ensures.waits in
     let f' = ap length c.in-Some-next_to_act.ensures.bids in
-    record { «open» = c.requires.open; line_place = omega (arith, n, l, f, l', f'); flight_place = omega (arith, n, l, f, l', f') }
+    record { noted = c.requires.noted; line_place = omega (arith, n, l, f, l', f'); flight_place = omega (arith, n, l, f, l', f') }
 
 pub returns-in-Some-next_to_act : goal.returns-in-Some-next_to_act
 returns-in-Some-next_to_act g c =
