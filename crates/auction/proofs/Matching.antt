@@ -10,9 +10,6 @@ use Rattle.auction.specs.Rules.{freed}
 use Rattle.auction.specs.Consistent.{Consistent}
 use Rattle.auction.proofs.Counted.{one, count_set}
 
-pub some_same : {A : Type 0} {a b : A} → Some a ≡ Some b → a ≡ b
-some_same e = cc
-
 -- Who is not served holds no job.
 pub holds_none : (j : ℕ) (s : Standing) → is_served s ≡ false → holds_job j s ≡ false
 holds_none j Waiting e = refl

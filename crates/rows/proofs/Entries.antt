@@ -1,6 +1,6 @@
 -- A row, entry by entry: what is found in it, its total, and the step of the loop that looks for its best entry.
 use Rattle.std.proofs.Common.{◌≡◌, ℕ, ◌+◌, ◌*◌, ◌^◌, ◌<◌, ◌≤◌, eqb, List, [], ◌∷◌, ◌++◌, length, get_or, Some, None, Option, sym, refl, ap, ◌∙◌, subst, arith, rules, below_more}
-use Rattle.std.proofs.lemmas.List.{append_assoc, append-nil, length-append}
+use Rattle.std.proofs.lemmas.List.{append_assoc, length-append}
 use Rattle.std.proofs.Math.Seq.{get_or-append_seam}
 use Rattle.std.proofs.lemmas.List.Sums.{sum_by-cons}
 use Rattle.sources.specs.Meaning.{Rising, worth_in}
@@ -85,9 +85,6 @@ pub record BestSoFar (row seen left : List (ℕ × ℕ)) (best : Option (ℕ × 
   pub first : BestOfFirst row (length seen) (entry_or_none best).0 (entry_or_none best).1
   pub worth : IsWorth best
 
-pub none_seen : (row left : List (ℕ × ℕ)) → left ≡ row → BestSoFar row [] left None
-none_seen row left e = record { parts = e; first = best_of_none row; worth = tt }
-
 module _ (row seen left after : List (ℕ × ℕ)) (job worth : ℕ) (best : Option (ℕ × ℕ)) (so_far : BestSoFar row seen left best) (step : left ≡ (job, worth) ∷ after) where
   whole : seen ++ (job, worth) ∷ after ≡ row
   whole = ap (λ es. seen ++ es) (sym step) ∙ so_far.parts
@@ -121,11 +118,6 @@ module _ (row seen left after : List (ℕ × ℕ)) (job worth : ℕ) (best : Opt
 best_of_all : (row : List (ℕ × ℕ)) (best : Option (ℕ × ℕ)) → BestOfFirst row (length row) (entry_or_none best).0 (entry_or_none best).1 → IsWorth best → BestIn row best
 best_of_all row None b w = no_best row (length row) 0 0 refl b (omega arith)
 best_of_all row (Some (job, worth)) b w = best_is row (length row) job worth refl b w
-
-pub all_seen : (row seen left : List (ℕ × ℕ)) (best : Option (ℕ × ℕ)) → BestSoFar row seen left best → left ≡ [] → BestIn row best
-all_seen row seen left best b none =
-    let all : seen ≡ row = sym (append-nil seen) ∙ ap (λ es. seen ++ es) (sym none) ∙ b.parts in
-    best_of_all row best (subst (λ es. BestOfFirst row (length es) (entry_or_none best).0 (entry_or_none best).1) all b.first) b.worth
 
 -- what a `map_or` with 0 makes of the best so far
 pub most_is : {P : ℕ × ℕ → Type 0} (best : Option (ℕ × ℕ)) (most : ℕ) → MatchOption best (most ≡ 0) P → ((e : ℕ × ℕ) → P e → most ≡ e.1) → most ≡ (entry_or_none best).1

@@ -1,6 +1,6 @@
 -- Results that follow one another, taken apart and put together.
 use Rattle.std.proofs.Common.{◌≡◌, ℕ, ◌<◌, ◌≤◌, Bool, true, false, cond, ◌&&◌, ltb, leb, List, ◌++◌, Ok, Err, Result, sym, refl, ap, ◌∙◌, arith}
-use Rattle.std.proofs.lemmas.Bool.{and_from, and_parts, le-leb, leb-true, lt-leb, lt-ltb, ltb-true}
+use Rattle.std.proofs.lemmas.Bool.{and_from, and_parts, le-leb, leb-true, lt-ltb, ltb-true}
 use Rattle.refusals.specs.declared.Fault.{Fault}
 use Rattle.sheetfile.specs.Steps.{and_then, prefixed, room_for}
 
@@ -45,6 +45,3 @@ roomy e need room x y is = let t = tested (leb need room) (Ok x) e y is in (leb-
 
 pub room_there : {A E : Type 0} (e : E) (need room : ℕ) (x : A) → need ≤ room → room_for e need room x ≡ Ok x
 room_there e need room x fits = ap (λ t. cond t (Ok x) (Err e)) (le-leb need room fits)
-
-pub no_room : {A E : Type 0} (e : E) (need room : ℕ) (x : A) → room < need → room_for e need room x ≡ Err e
-no_room e need room x short = ap (λ t. cond t (Ok x) (Err e)) (lt-leb need room short)
