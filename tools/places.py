@@ -40,6 +40,7 @@ def point1():
     yield from (('field that says failed',) + x for x in found(r'^ +(?:pub(?:\([a-z]+\))? )?\w+: Option<(?:Fault|Refusal|Trouble|\w*Error|E)>'))
     yield from (('error handed on',) + x for x in found(r'Err\((\w+)\) => (?:return )?(?:Err\(|[A-Z]\w+::Refused\(|refused\(|troubled\()[^,\n]*'))
     yield from (('absent handed on',) + x for x in found(r'Some\((\w+)\) => \1,\s*None => [^,\n]*|None => None|None => return None|None => Ok\(\(\)\)'))
+    yield from (('refused in a let else',) + x for x in found(r'else \{\s*return Err\([^;]*;', re.M | re.S))
     yield from (('bool or nested result',) + x for x in found(r'-> (?:Result<bool[^{\n]*|Result<Result[^{\n]*)|fn \w+\([^)]*&mut[^)]*\)\s*-> bool'))
     yield from (('number of a refusal',) + x for x in found(r'\.number\(\) [=!<>]+ \d+'))
 
@@ -65,6 +66,7 @@ def point2():
     for value, where in consts.items():
         if len(where) > 1:
             for f, n, t in where: yield 'same constant', f, n, t
+    yield from (('array constant',) + x for x in found(r'^ *(?:pub(?:\(crate\))? )?const \w+: \[[^=]*'))
     types = collections.defaultdict(list)
     for f, t in CODE.items():
         for m in re.finditer(r'^(?:pub(?:\(crate\))? )?struct (\w+)[^{;]*\{\n(.*?)^\}', t, re.M | re.S):
@@ -85,6 +87,7 @@ def point3():
         for m in re.finditer(r'^( *)for \((\w+), \w+\) in [^{\n]*enumerate\(\)[^{\n]*\{\n(.*?)^\1\}', t, re.M | re.S):
             if re.search(r'\[%s\b' % m.group(2), m.group(3)): yield 'index beside enumerate', f, line(t, m.start()), m.group(0).split('{')[0].strip()
     for f, n, t in found(r'^ +\w+ \+= 1;|^ +(\w+) = \1\.saturating_add\(1\);'): yield 'counter', f, n, t
+    for f, n, t in found(r'^ +(\w+) \+= (?!1;)[^;]*;|^ +(\w+) = \2\.max\([^;]*;'): yield 'running sum or maximum', f, n, t
 
 
 def point4():
@@ -123,6 +126,7 @@ def point6():
 def point7():
     yield from (('one function a step',) + x for x in found(r'fn tell_\w+'))
     yield from (('step to run',) + x for x in found(r'^(?:pub(?:\(crate\))? )?enum (?:Act|Layer|Move)\b'))
+    yield from (('function pointer or dyn',) + x for x in found(r'\bdyn \w+|: fn\('))
     yield from (('match that picks a function',) + x for x in found(r'Layer::\w+\(\w+\)\)? => \w+\('))
 
 

@@ -15,7 +15,8 @@ use refusals::Refusal;
 use sources::source::Source;
 
 // A hall owns its source, any source, and its books; it has none before the first start. Every call acts on that hall: it answers as the rule
-// says, leaves the tally that the rule says, and leaves the source as it was; a refused call leaves the books as they were.
+// says, leaves the tally that the rule says, and leaves the source as it was; a refused call leaves the books as they were. Each call
+// promises that of its own, the source (`kept`) too: no type can say what a call leaves.
 #[derive(Drop)]
 pub struct Hall<S: Source> {
     source: S,
