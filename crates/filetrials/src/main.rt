@@ -8,6 +8,7 @@ use refusals::{Fault, Refusal};
 use sheetfile::loader::Bare;
 use sheetfile::rewriting::rewrite;
 use sheetfile::whole::load;
+use sources::checks::MOST_CARRIERS;
 use sources::form::{Entry, Heading};
 use sources::sheet::Sheet;
 use std::alloc::{AllocError, Global};
@@ -72,6 +73,7 @@ fn random_file(heap: Global, draw: &mut Draw) -> Result<Vec<u8>, AllocError> {
             1 => 20,
             _ => 3,
         };
+        // By `as`: the check proves that no bits are lost.
         bytes.push((draw.below(most) & 255) as u8)?;
     }
     Ok(bytes)
@@ -114,6 +116,51 @@ impl Tally {
         }
         Ok(())
     }
+
+    // Loads a file and writes it again, and counts what became of it.
+    fn examine(&mut self, bytes: &[u8]) -> Result<(), AllocError> {
+        let mut starts = [7usize; 6];
+        let mut entries = [Entry { job: 9, worth: 9 }; 20];
+        let mut out = [255u8; 160];
+        match rewrite(bytes, &mut starts, &mut entries, &mut out) {
+            Ok(len) => {
+                self.accept(out.get(0..len) == Some(bytes) && agrees(bytes));
+                Ok(())
+            }
+            Err(fault) => self.refuse(fault.refusal, agrees(bytes)),
+        }
+    }
+
+    // Examines a file with each other byte at one place.
+    fn change_at(&mut self, bytes: &mut [u8], at: usize) -> Result<(), AllocError> {
+        let Some(kept) = bytes.get(at).copied() else {
+            return Ok(());
+        };
+        for other in (0..=255u8).filter(|other| *other != kept) {
+            bytes[at] = other;
+            self.examine(bytes)?;
+        }
+        bytes[at] = kept;
+        Ok(())
+    }
+
+    // Examines a file with each single byte changed in every way.
+    fn change_each(&mut self, bytes: &mut [u8]) -> Result<(), AllocError> {
+        // By place: the whole file is examined each time, so no loop can hold one of its bytes.
+        for at in 0..bytes.len() {
+            self.change_at(bytes, at)?;
+        }
+        Ok(())
+    }
+
+    // Examines each part of a file from its start, but the whole.
+    fn cut_each(&mut self, bytes: &[u8]) -> Result<(), AllocError> {
+        // By place: what is examined is the file up to a place, and no library method gives each beginning of a slice.
+        for end in 0..bytes.len() {
+            self.examine(&bytes[..end])?;
+        }
+        Ok(())
+    }
 }
 
 impl fmt::Display for Tally {
@@ -151,7 +198,7 @@ fn load_by_states(
     entries: &mut [Entry],
 ) -> Result<Heading, Fault> {
     let mut loader = Bare::new(bytes).read_heading(starts)?;
-    for _ in 0..129u8 {
+    for _ in 0..=MOST_CARRIERS {
         match loader.read_row(starts, entries) {
             Ok(()) => {}
             Err(fault) if fault.refusal == Refusal::NoRowLeft => break,
@@ -175,51 +222,6 @@ fn agrees(bytes: &[u8]) -> bool {
         && (whole.is_err() || (starts == starts_by_states && entries == entries_by_states))
 }
 
-// Loads a file and writes it again, and counts what became of it.
-fn examine(bytes: &[u8], tally: &mut Tally) -> Result<(), AllocError> {
-    let mut starts = [7usize; 6];
-    let mut entries = [Entry { job: 9, worth: 9 }; 20];
-    let mut out = [255u8; 160];
-    match rewrite(bytes, &mut starts, &mut entries, &mut out) {
-        Ok(len) => {
-            tally.accept(out.get(0..len) == Some(bytes) && agrees(bytes));
-            Ok(())
-        }
-        Err(fault) => tally.refuse(fault.refusal, agrees(bytes)),
-    }
-}
-
-// Examines a file with each other byte at one place.
-fn change_at(bytes: &mut [u8], at: usize, tally: &mut Tally) -> Result<(), AllocError> {
-    let Some(kept) = bytes.get(at).copied() else {
-        return Ok(());
-    };
-    for other in (0..=255u8).filter(|other| *other != kept) {
-        bytes[at] = other;
-        examine(bytes, tally)?;
-    }
-    bytes[at] = kept;
-    Ok(())
-}
-
-// Examines a file with each single byte changed in every way.
-fn change_each(bytes: &mut [u8], tally: &mut Tally) -> Result<(), AllocError> {
-    // By place: the whole file is examined each time, so no loop can hold one of its bytes.
-    for at in 0..bytes.len() {
-        change_at(bytes, at, tally)?;
-    }
-    Ok(())
-}
-
-// Examines each part of a file from its start, but the whole.
-fn cut_each(bytes: &[u8], tally: &mut Tally) -> Result<(), AllocError> {
-    // By place: what is examined is the file up to a place, and no library method gives each beginning of a slice.
-    for end in 0..bytes.len() {
-        examine(&bytes[..end], tally)?;
-    }
-    Ok(())
-}
-
 // Examines some sheets, whole and damaged.
 fn try_sheets(heap: Global, count: u32) -> Result<[Tally; 3], AllocError> {
     let mut draw = Draw::new(1 ^ SPREAD);
@@ -228,9 +230,9 @@ fn try_sheets(heap: Global, count: u32) -> Result<[Tally; 3], AllocError> {
     let mut cuts = Tally::new(heap);
     for _ in 0..count {
         let mut sheet = sheet_file(heap, &mut draw)?;
-        examine(&sheet, &mut sheets)?;
-        change_each(&mut sheet, &mut changes)?;
-        cut_each(&sheet, &mut cuts)?;
+        sheets.examine(&sheet)?;
+        changes.change_each(&mut sheet)?;
+        cuts.cut_each(&sheet)?;
     }
     Ok([sheets, changes, cuts])
 }
@@ -241,7 +243,7 @@ fn try_random(heap: Global, count: u32) -> Result<Tally, AllocError> {
     let mut tally = Tally::new(heap);
     for _ in 0..count {
         let file = random_file(heap, &mut draw)?;
-        examine(&file, &mut tally)?;
+        tally.examine(&file)?;
     }
     Ok(tally)
 }
