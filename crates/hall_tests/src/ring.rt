@@ -1,14 +1,9 @@
 // Rings of carrier numbers, and of carriers with the looks that they have left.
+use auction::standing::InFlight;
 use refusals::Refusal;
 use rings::Ring;
 use rings::moves::{Move, Outcome};
 use std::test::Fail;
-
-#[derive(Clone, Copy, PartialEq, Eq, Debug)]
-struct Bidder {
-    carrier: usize,
-    looks_left: usize,
-}
 
 #[test]
 fn a_ring_of_carrier_numbers(rt: HostRuntime) -> Result<(), Fail> {
@@ -34,11 +29,11 @@ fn a_ring_of_carrier_numbers(rt: HostRuntime) -> Result<(), Fail> {
 
 #[test]
 fn a_ring_of_records(rt: HostRuntime) -> Result<(), Fail> {
-    let first = Bidder {
+    let first = InFlight {
         carrier: 4,
         looks_left: 2,
     };
-    let second = Bidder {
+    let second = InFlight {
         carrier: 0,
         looks_left: 0,
     };

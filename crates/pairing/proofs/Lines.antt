@@ -1,5 +1,7 @@
 -- Lines that are put one behind the other, and what carriers hold, added up.
 use Rattle.std.proofs.Common.{◌≡◌, ℕ, zero, suc, ◌^◌, ◌+◌, ◌<◌, ◌≤◌, List, [], ◌∷◌, ◌++◌, map, length, get_or, take, Some, None, Option, sym, ap, ◌∙◌, refl, add-one, arith}
+use Rattle.std.specs.List.{sum_by, enumerate_from}
+use Rattle.std.proofs.lemmas.List.Sums.{sum_by-cons}
 use Rattle.std.proofs.lemmas.List.{append_assoc, append-nil, length-take-le, take_more}
 use Rattle.sources.specs.Meaning.{Meaning, Sound, row_of}
 use Rattle.sources.proofs.Reading.{row_within}
@@ -32,19 +34,17 @@ given_none : (o : Option ℕ) → given_worth [] o ≡ 0
 given_none None = refl
 given_none (Some j) = refl
 
-along_next : (rows : List (List (ℕ × ℕ))) (ss : List Standing) (i : ℕ) (d : Standing) → i < length ss →
-    worth_along rows (map job_served (take (suc i) ss)) ≡ worth_along rows (map job_served (take i ss)) + given_worth (get_or rows i []) (job_served (get_or ss i d))
-along_next rows [] i d inside = absurd (omega (arith, inside))
-along_next [] (s ∷ ss) i d inside = omega (arith, given_none (job_served (get_or (s ∷ ss) i d)))
-along_next (r ∷ rows) (s ∷ ss) zero d inside = omega (arith, along_none rows)
-along_next (r ∷ rows) (s ∷ ss) (suc i) d inside = let more = along_next rows ss i d (omega (arith, inside)) in omega (arith, more)
-
--- one carrier more is counted
-pub along_more : (rows : List (List (ℕ × ℕ))) (ss : List Standing) (i : ℕ) (d : Standing) → i < length ss →
-    worth_along rows (map job_served (take (i + 1) ss)) ≡ worth_along rows (map job_served (take i ss)) + given_worth (get_or rows i []) (job_served (get_or ss i d))
-along_more rows ss i d inside = ap (λ n. worth_along rows (map job_served (take n ss))) (add-one i) ∙ along_next rows ss i d inside
-
--- no source has a ceiling above 2 ^ 60
-pub given_capped : (m : Meaning) → Sound m → (i : ℕ) (o : Option ℕ) → given_worth (row_of m i) o ≤ 2 ^ 60
-given_capped m s i None = omega arith
-given_capped m s i (Some j) = omega (arith, worth_capped m.ceiling (row_of m i) (row_within m s i) j, s.small)
+-- what all carriers are given comes to what the pairing is worth
+pub along_all : (row : ℕ → List (ℕ × ℕ)) (rows : List (List (ℕ × ℕ))) (i : ℕ) (ss : List Standing) → ((k : ℕ) → row (i + k) ≡ get_or rows k []) →
+    sum_by (λ (p : ℕ × Standing). given_worth (row p.0) (job_served p.1)) (enumerate_from i ss) ≡ worth_along rows (map job_served ss)
+along_all row rows i [] h = sym (along_none rows)
+along_all row [] i (s ∷ ss) h =
+    let head : row i ≡ [] = ap row (omega arith) ∙ h 0 in
+    let none : given_worth (row i) (job_served s) ≡ 0 = ap (λ r. given_worth r (job_served s)) head ∙ given_none (job_served s) in
+    let rest = along_all row [] (i + 1) ss (λ k. ap row (omega arith) ∙ h (suc k)) in
+    sum_by-cons (λ (p : ℕ × Standing). given_worth (row p.0) (job_served p.1)) (i, s) (enumerate_from (i + 1) ss) ∙ omega (arith, none, rest)
+along_all row (r ∷ rows) i (s ∷ ss) h =
+    let head : row i ≡ r = ap row (omega arith) ∙ h 0 in
+    let same : given_worth (row i) (job_served s) ≡ given_worth r (job_served s) = ap (λ l. given_worth l (job_served s)) head in
+    let rest = along_all row rows (i + 1) ss (λ k. ap row (omega arith) ∙ h (suc k)) in
+    sum_by-cons (λ (p : ℕ × Standing). given_worth (row p.0) (job_served p.1)) (i, s) (enumerate_from (i + 1) ss) ∙ omega (arith, same, rest)

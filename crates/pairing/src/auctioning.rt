@@ -21,6 +21,7 @@ pub(crate) fn hold_auction<S: Source>(
 {
     let times = Times {
         below: source,
+        // By `as`: the check proves that no bits are lost.
         factor: standings.len() as u32 + 1,
     };
     let calls = [

@@ -12,6 +12,7 @@ use auction::standing::Standing;
 use outputs::Output;
 use refusals::Refusal;
 use sheetfile::whole::{MOST_ENTRIES, MOST_STARTS, load_within};
+use sources::checks::MOST_CARRIERS;
 use sources::form::Entry;
 use sources::sheet::Sheet;
 use sources::source::Source;
@@ -48,7 +49,7 @@ fn list_source<S: Source>(source: &S, out: &mut [u8]) -> Result<usize, Refusal>
     ensures paired { PairsWell (S.Source.meaning source.now) }
     ensures short { AtMost 8320 (listing_after (S.Source.meaning source.now) (auctioned (S.Source.meaning source.now))) }
 {
-    let mut places = [Standing::Waiting; 128];
+    let mut places = [Standing::Waiting; MOST_CARRIERS];
     let standings = &mut places[..source.carriers()];
     let counts = hold_auction(source, standings)?;
     let ended = Ended {
@@ -64,6 +65,8 @@ fn list_source<S: Source>(source: &S, out: &mut [u8]) -> Result<usize, Refusal>
 }
 
 // What `pair` prints of a sheet file: how many bytes, and the refusal, if it is refused.
+// No Result: a refusal is printed too, so there is a text in each case. The text goes to a lent buffer and is not kept here, since C's
+// call lists into one of its own.
 #[derive(Drop)]
 pub struct Printed {
     pub len: usize,

@@ -73,11 +73,11 @@ impl<S: Source> Ended<'_, S> {
     fn total_worth(&self) -> u128
         ensures { result ≡ worth (S.Source.meaning self.now.source.now) (map job_served self.now.standings.now) }
     {
-        let mut total = 0;
-        for (carrier, standing) in self.standings.iter().enumerate() {
-            total += u128::from(self.worth_served(carrier, *standing));
-        }
-        total
+        self.standings
+            .iter()
+            .enumerate()
+            .map(|(carrier, standing)| u128::from(self.worth_served(carrier, *standing)))
+            .sum()
     }
 
     // Puts the last line.

@@ -1,20 +1,20 @@
-use Rattle.std.proofs.Common.{get_or, sym, arith}
-use Rattle.auction.specs.declared.standing.Standing.TheVariants.{Waiting}
-use Rattle.auction.specs.Laws.{job_served}
-use Rattle.pairing.proofs.Lines.{along_more, along_none, given_capped}
+use Rattle.std.proofs.Common.{ℕ, ap, ◌∙◌, arith, rules, tests}
+use Rattle.std.proofs.lemmas.Iterator.{YieldsList-from_map, YieldsList-from_slice}
+use Rattle.std.proofs.lemmas.Iterator.Consumers.{YieldsList-at, YieldsList-from_enumerate, sum_by_from_yields_List}
+use Rattle.std.specs.List.{enumerate_from}
+use Rattle.sources.specs.Meaning.{row_of}
+use Rattle.auction.specs.declared.standing.Standing.{Standing}
+use Rattle.auction.specs.Laws.{given_worth, job_served}
+use Rattle.pairing.proofs.Lines.{along_all}
 use Rattle.pairing.proofs.listing.Ended.total_worth.Goals as goal
 
-pub loop-carrier-init : goal.loop-carrier-init
-loop-carrier-init g c = record { total = sym (along_none (g.S.Source.meaning c.args.self.now.source.now).rows); small = omega arith }
-
-pub loop-carrier-preserved : goal.loop-carrier-preserved
-loop-carrier-preserved g c =
+pub returns : goal.returns
+returns g c =
     let m = g.S.Source.meaning c.args.self.now.source.now in
     let ss = c.args.self.now.standings.now in
-    let i = c.loop-carrier.carrier in
-    let cap = given_capped m (g.S.Source.sound c.args.self.now.source.now) i (job_served (get_or ss i Waiting)) in
-    let more = along_more m.rows ss i Waiting c.loop-carrier-test.true in
-    record {
-      total = omega (arith, more, c.worth_served.ensures, c.loop-carrier.invariant.total);
-      small = omega (arith, c.worth_served.ensures, cap, c.loop-carrier.invariant.small);
-    }
+    sum_by_from_yields_List (λ (p : ℕ × Standing). given_worth (row_of m p.0) (job_served p.1)) (enumerate_from 0 ss) c.map.result c.sum.result c.sum.ensures.ran
+    (YieldsList-from_map _ (λ (p : ℕ × Standing). given_worth (row_of m p.0) (job_served p.1))
+    (YieldsList-at c.map.ensures.source
+    (YieldsList-from_enumerate (YieldsList-from_slice ss (ap (λ i. i.rest.now) c.enumerate.ensures.source ∙ c.iter.ensures.rest)) c.enumerate.ensures.count))
+    c.map.ensures.closure (λ x r q k. search (rules, tests)))
+    ∙ along_all (row_of m) m.rows 0 ss (λ k. search (rules, arith))
