@@ -1,13 +1,11 @@
 -- Lines that are put one behind the other, and what carriers hold, added up.
-use Rattle.std.proofs.Common.{◌≡◌, ℕ, zero, suc, ◌^◌, ◌+◌, ◌<◌, ◌≤◌, List, [], ◌∷◌, ◌++◌, map, length, get_or, take, Some, None, Option, sym, ap, ◌∙◌, refl, add-one, arith}
+use Rattle.std.proofs.Common.{◌≡◌, ℕ, suc, ◌+◌, ◌<◌, List, [], ◌∷◌, ◌++◌, map, length, get_or, take, Some, None, Option, sym, ap, ◌∙◌, refl, arith}
 use Rattle.std.specs.List.{sum_by, enumerate_from}
 use Rattle.std.proofs.lemmas.List.Sums.{sum_by-cons}
 use Rattle.std.proofs.lemmas.List.{append_assoc, append-nil, length-take-le, take_more}
-use Rattle.sources.specs.Meaning.{Meaning, Sound, row_of}
-use Rattle.sources.proofs.Reading.{row_within}
+use Rattle.sources.specs.Meaning.{Meaning}
 use Rattle.auction.specs.declared.standing.Standing.{Standing}
 use Rattle.auction.specs.Laws.{given_worth, job_served, worth_along}
-use Rattle.auction.proofs.Rows.{worth_capped}
 use Rattle.pairing.specs.Listing.{carrier_line, carrier_lines}
 
 lines_push : (m : Meaning) (i : ℕ) (ss : List Standing) (s : Standing) → carrier_lines m i (ss ++ s ∷ []) ≡ carrier_lines m i ss ++ carrier_line m (i + length ss) s
