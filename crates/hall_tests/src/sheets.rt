@@ -6,7 +6,7 @@ use sources::form::{Entry, Heading};
 use sources::sheet::Sheet;
 use sources::source::Source;
 
-// Rows 5 10 1, 4 11 3 and 5 14 8.
+// Rows 5 10 1, 4 11 3 and 5 14 8. Written out: no library crate is for examples.
 const TABLE: [Entry; 9] = [
     Entry { job: 0, worth: 5 },
     Entry { job: 1, worth: 10 },
