@@ -10,7 +10,6 @@ ghost use Rattle.std.specs.Prelude.{IfOk};
 use crate::log::{Trouble, read_log};
 use crate::printing::append_lines;
 use crate::running::perform_layered;
-use auction::call::Answer;
 use sheetfile::whole::{MOST_ENTRIES, MOST_STARTS, load_within};
 use sources::form::Entry;
 use sources::sheet::Sheet;
@@ -38,12 +37,12 @@ fn replayed(heap: Global, sheet: &[u8], text: &[u8]) -> Result<String, Failure<T
     ensures { Replays (replayed (asked_in text.now) (loaded_within sheet.now)) result }
 {
     let log = read_log(heap, text)?;
+    // Arrays of these two sizes, since `load_within` asks for them.
     let mut starts = [0usize; MOST_STARTS];
     let mut entries = [Entry { job: 0, worth: 0 }; MOST_ENTRIES];
     let mut source = Sheet::new();
     load_within(sheet, &mut starts, &mut entries, &mut source).map_err(Trouble::Sheet)?;
-    let mut answers = vec![in heap; Ok(Answer::Accepted); log.calls.len()]?;
-    perform_layered(source, log.layers, &log.calls, &mut answers);
+    let answers = perform_layered(heap, source, log.layers, &log.calls)?;
     let mut lines = String::new(heap);
     append_lines(&mut lines, &log.calls, &answers)?;
     Ok(lines)
