@@ -1,4 +1,5 @@
-// The numbers of a sheet file, written here anew: nothing is called of the crate that the loader and the writer call.
+// The numbers of a sheet file. Written here and not by the crate that the loader and the writer call, no plainer: trials must not call
+// what they try.
 ghost use Rattle.std.specs.Prelude.{◌≡◌, ◌++◌, OnOk};
 ghost use Rattle.numbers.specs.Groups.{encoded};
 
@@ -11,6 +12,7 @@ pub fn push_number(bytes: &mut Vec<u8>, n: u64) -> Result<(), AllocError>
 {
     let mut rest = n;
     while rest >= 128 {
+        // By `as`: the check proves that no bits are lost.
         bytes.push((128 + rest % 128) as u8)?;
         rest /= 128;
     }

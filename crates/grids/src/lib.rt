@@ -25,10 +25,12 @@ impl Grid {
     pub fn draw(draw: &mut Draw, most: u64) -> Grid
         ensures { Within most result }
     {
+        // By `as`: the check proves that no bits are lost.
         let carriers = 1 + draw.below(4) as usize;
         let jobs = 1 + draw.below(4) as usize;
         let ceiling = 1 + draw.below(most);
         let mut worths = [[0; 4]; 4];
+        // By number: after `iter_mut().take(carriers)` (tried) a proof does not know what was written.
         for (carrier, row) in worths.iter_mut().enumerate() {
             if carrier < carriers {
                 *row = draw_row(draw, jobs, ceiling);
@@ -90,6 +92,7 @@ impl Grid {
     pub fn best(&self) -> u64
         ensures { IsBest self.now.worths result }
     {
+        // A loop: after `map(..).max()` over the numbers (tried) the check found no proof that some pairing has the largest worth.
         let mut most = 0;
         for number in 0..PAIRINGS {
             most = most.max(pairing_worth(&self.worths, number, [false; 4]).unwrap_or(0));
@@ -104,6 +107,7 @@ fn draw_row(draw: &mut Draw, jobs: usize, ceiling: u64) -> [u64; 4]
     ensures { RowWithin jobs ceiling result }
 {
     let mut row = [0; 4];
+    // By number: after `iter_mut().take(jobs)` (tried) a proof does not know what was written.
     for (job, worth) in row.iter_mut().enumerate() {
         if job < jobs && draw.below(5) > 0 {
             *worth = draw.below(ceiling).saturating_add(1);

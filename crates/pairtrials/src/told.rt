@@ -19,16 +19,17 @@ enum Line {
 
 // A number in decimal digits, and nothing else.
 fn number(field: &str) -> Option<u64> {
-    if field.bytes().all(|byte| byte.is_ascii_digit()) {
-        field.parse().ok()
-    } else {
-        None
-    }
+    field
+        .bytes()
+        .all(|byte| byte.is_ascii_digit())
+        .then(|| field.parse().ok())
+        .flatten()
 }
 
 // The line of a carrier, without its end.
 fn read_line(line: &str, carrier: usize) -> Option<Line> {
     let (first, rest) = line.split_once(' ')?;
+    // By `as`: the check proves that no bits are lost.
     if number(first)? != carrier as u64 {
         return None;
     }

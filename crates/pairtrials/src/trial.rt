@@ -45,11 +45,9 @@ fn is_untouched(bytes: &[u8]) -> bool {
 fn listing_in<'a>(sheet: &[u8], out: &'a mut [u8; ROOM]) -> Option<&'a str> {
     let len = list_pairs(sheet, out).ok()?;
     let (text, behind) = out.split_at_checked(len)?;
-    if is_untouched(behind) {
-        str::from_utf8(text).ok()
-    } else {
-        None
-    }
+    is_untouched(behind)
+        .then(|| str::from_utf8(text).ok())
+        .flatten()
 }
 
 // Whether a call is refused with this, and touches none of the bytes.
@@ -83,6 +81,7 @@ fn on_grid(grid: &Grid, sheet: &[u8], sums: &mut Sums) -> anyhow::Result<()> {
 // A file with one byte changed: refused, and then the buffer is as it was, or paired.
 fn on_damaged(heap: Global, draw: &mut Draw, sheet: &[u8], sums: &mut Sums) -> anyhow::Result<()> {
     let mut damaged = Vec::from_slice(heap, sheet)?;
+    // By `as`: the check proves that no bits are lost.
     let at = draw.below(sheet.len() as u64) as usize;
     if let Some(byte) = damaged.get_mut(at) {
         *byte = draw.below(256) as u8;
