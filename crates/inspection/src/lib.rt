@@ -35,9 +35,9 @@ fn listed(heap: Global, bytes: &[u8]) -> Result<String, Failure<Fault>>
     if bytes.len() > MOST_BYTES {
         return Err(Failure::Refused(Fault::bare(Refusal::TooShort)));
     }
-    let mut starts = [0usize; MOST_STARTS];
-    let mut entries = [Entry { job: 0, worth: 0 }; MOST_ENTRIES];
-    let mut out = [0u8; MOST_BYTES];
+    let mut starts = vec![in heap; 0usize; MOST_STARTS]?;
+    let mut entries = vec![in heap; Entry { job: 0, worth: 0 }; MOST_ENTRIES]?;
+    let mut out = vec![in heap; 0u8; bytes.len()]?;
     rewrite(bytes, &mut starts, &mut entries, &mut out).map_err(Failure::Refused)?;
     let mut sheet = Sheet::new();
     load_sheet(bytes, &mut starts, &mut entries, &mut sheet).map_err(Failure::Refused)?;
