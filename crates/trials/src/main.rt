@@ -119,6 +119,7 @@ fn counts_hold(terms: &Terms, seen: &Seen, counts: Counts) -> bool {
         .saturating_add(counts.stales)
         .saturating_add(counts.outs);
     let highest_price = terms.grid.ceiling.saturating_add(terms.step);
+    // By `as`: the check proves that no bits are lost.
     let most_awards = (terms.grid.jobs as u64).saturating_mul(highest_price);
     let others = (terms.grid.carriers as u64).saturating_sub(1);
     counts.summonses == ended.saturating_add(seen.bidding)

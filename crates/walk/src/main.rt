@@ -9,7 +9,7 @@ use sources::sheet::Sheet;
 use sources::source::Source;
 use std::io;
 
-// What each of three jobs is worth to each of three carriers.
+// What each of three jobs is worth to each of three carriers. Written out: no library crate is for examples.
 const WORTHS: [Entry; 9] = [
     Entry { job: 0, worth: 5 },
     Entry { job: 1, worth: 10 },

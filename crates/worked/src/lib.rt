@@ -39,7 +39,7 @@ pub struct SheetCases {
     pub one_carrier_more: Result<Heading, Fault>,
 }
 
-// Loads the worked sheet, and the same with one carrier more.
+// Loads the worked sheet, and the same with one carrier more. Written out: no library crate is for examples.
 pub fn sheet_cases() -> SheetCases
     ensures value { result ≡ sheet_cases }
     ensures worked { WorkedSheet }

@@ -27,7 +27,7 @@ fn play<const N: usize>(
     answers
 }
 
-// Rows 5 10 1, 4 11 3 and 5 14 8.
+// Rows 5 10 1, 4 11 3 and 5 14 8. Written out: no library crate is for examples.
 fn play_table<const N: usize>(calls: [Call; N]) -> [Result<Answer, Refusal>; N]
     ensures { result ≡ answers_from table None calls.entry }
 {
