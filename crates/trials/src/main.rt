@@ -4,7 +4,7 @@
 #![tactic(auto)]
 
 use auction::call::{Answer, Call};
-use auction::standing::{Counts, Held, Standing};
+use auction::standing::{Award, Best, Bid, Counts, Held, Standing, Verdict};
 use draws::Draw;
 use grids::Grid;
 use hall::hall::Hall;
@@ -62,25 +62,50 @@ struct Terms {
     step: u64,
 }
 
-// The hall's pairing, by the standings that it tells; `done` are the carriers served or out, and `taken` the jobs that are held.
-#[derive(Clone, Copy, Default)]
+// What the hall tells after a call: standings, prices and the count of awards, and its pairing by the standings. `done` are the carriers
+// served or out, and `served_with` has the carrier that is served with each job. `summoned_at` has the count of awards at the last check
+// that found each carrier not bidding: at most what was awarded when a bid that is open now began, and that number where no run began it.
+#[derive(Clone, Copy)]
 struct Seen {
+    standings: [Standing; 4],
+    prices: [u64; 4],
+    awards: u64,
+    summoned_at: [u64; 4],
     done: [bool; 4],
-    taken: [bool; 4],
+    served_with: [Option<usize>; 4],
     served: u64,
     bidding: u64,
     worth: u64,
     below: u64,
 }
 
+// Before the first call.
+const NOTHING_SEEN: Seen = Seen {
+    standings: [Standing::Waiting; 4],
+    prices: [0; 4],
+    awards: 0,
+    summoned_at: [0; 4],
+    done: [false; 4],
+    served_with: [None; 4],
+    served: 0,
+    bidding: 0,
+    worth: 0,
+    below: 0,
+};
+
 impl Seen {
+    // The price of a job.
+    fn price(&self, job: usize) -> u64 {
+        self.prices.get(job).copied().unwrap_or(0)
+    }
+
     // Notes a served carrier. Two carriers with one job, and a worth that is not the sheet's, are unlawful.
     fn note_served(&mut self, terms: &Terms, carrier: usize, held: Held) -> Result<(), Trouble> {
         let Held { job, worth } = held;
-        let taken = self.taken.get_mut(job).ok_or(Trouble::Unlawful)?;
+        let served_with = self.served_with.get_mut(job).ok_or(Trouble::Unlawful)?;
         let done = self.done.get_mut(carrier).ok_or(Trouble::Unlawful)?;
-        lawful(worth > 0 && worth == terms.grid.worth(carrier, job) && !*taken)?;
-        *taken = true;
+        lawful(worth > 0 && worth == terms.grid.worth(carrier, job) && served_with.is_none())?;
+        *served_with = Some(carrier);
         *done = true;
         self.served = self.served.saturating_add(1);
         self.worth = self.worth.saturating_add(worth);
@@ -90,6 +115,10 @@ impl Seen {
 
     // Notes a carrier's standing.
     fn note(&mut self, terms: &Terms, carrier: usize, standing: Standing) -> Result<(), Trouble> {
+        *self.standings.get_mut(carrier).ok_or(Trouble::Unlawful)? = standing;
+        if !matches!(standing, Standing::Bidding(_)) {
+            *self.summoned_at.get_mut(carrier).ok_or(Trouble::Unlawful)? = self.awards;
+        }
         match standing {
             Standing::Waiting => {}
             Standing::Bidding(_) => self.bidding = self.bidding.saturating_add(1),
@@ -98,11 +127,29 @@ impl Seen {
         }
         Ok(())
     }
+
+    // Notes a job's price, once all standings are noted. Its holder is the carrier that is served with it, and a job that nobody
+    // holds costs nothing.
+    fn note_job(&mut self, job: usize, price: u64, holder: Option<usize>) -> Result<(), Trouble> {
+        let served_with = self.served_with.get(job).ok_or(Trouble::Unlawful)?;
+        lawful(holder == *served_with && (holder.is_some() || price == 0))?;
+        *self.prices.get_mut(job).ok_or(Trouble::Unlawful)? = price;
+        Ok(())
+    }
 }
 
-// All standings of the hall.
-fn look_round<S: Source>(hall: &mut Hall<S>, terms: &Terms) -> Result<Seen, Trouble> {
-    let mut seen = Seen::default();
+// All standings of the hall. `before` is what it told before the last call.
+fn look_at_carriers<S: Source>(
+    hall: &mut Hall<S>,
+    terms: &Terms,
+    before: &Seen,
+    counts: Counts,
+) -> Result<Seen, Trouble> {
+    let mut seen = Seen {
+        awards: counts.awards,
+        summoned_at: before.summoned_at,
+        ..NOTHING_SEEN
+    };
     for carrier in 0..terms.grid.carriers {
         let Ok(Answer::Stands(standing)) = hall.perform(Call::StandingOf(carrier)) else {
             return Err(Trouble::Unlawful);
@@ -110,6 +157,24 @@ fn look_round<S: Source>(hall: &mut Hall<S>, terms: &Terms) -> Result<Seen, Trou
         seen.note(terms, carrier, standing)?;
     }
     Ok(seen)
+}
+
+// The price and the holder of each job.
+fn look_at_jobs<S: Source>(
+    hall: &mut Hall<S>,
+    terms: &Terms,
+    seen: &mut Seen,
+) -> Result<(), Trouble> {
+    for job in 0..terms.grid.jobs {
+        let Ok(Answer::Price(price)) = hall.perform(Call::PriceOf(job)) else {
+            return Err(Trouble::Unlawful);
+        };
+        let Ok(Answer::Holder(holder)) = hall.perform(Call::HolderOf(job)) else {
+            return Err(Trouble::Unlawful);
+        };
+        seen.note_job(job, price, holder)?;
+    }
+    Ok(())
 }
 
 // The bounds on counts, and the balance.
@@ -142,16 +207,94 @@ fn rivals_hold(terms: &Terms, seen: &Seen) -> bool {
         && (!is_exact(terms) || terms.below.only(&seen.done).best() == seen.below)
 }
 
-// Every law holds of what the hall tells now.
-fn check_laws<S: Source>(hall: &mut Hall<S>, terms: &Terms) -> Result<(), Trouble> {
-    let seen = look_round(hall, terms)?;
-    let Ok(Answer::Worth(worth)) = hall.perform(Call::TotalWorth) else {
-        return Err(Trouble::Unlawful);
+// A served carrier is within one step of its best net at the prices now, and of 0.
+fn slack_holds(terms: &Terms, seen: &Seen, carrier: usize, held: Held) -> bool {
+    let price = seen.price(held.job);
+    let bound = held.worth.saturating_add(terms.step);
+    let no_better = |job| {
+        terms.grid.worth(carrier, job).saturating_add(price)
+            <= bound.saturating_add(seen.price(job))
     };
+    price <= bound && (0..terms.grid.jobs).all(no_better)
+}
+
+// Who is out would gain nothing at the prices now.
+fn gains_nothing(terms: &Terms, seen: &Seen, carrier: usize) -> bool {
+    (0..terms.grid.jobs).all(|job| terms.grid.worth(carrier, job) <= seen.price(job))
+}
+
+// What holds at the prices now of the carriers served or out.
+fn check_nets(terms: &Terms, seen: &Seen) -> Result<(), Trouble> {
+    for (carrier, standing) in seen.standings.iter().enumerate() {
+        match *standing {
+            Standing::Served(held) => lawful(slack_holds(terms, seen, carrier, held))?,
+            Standing::Out => lawful(gains_nothing(terms, seen, carrier))?,
+            Standing::Waiting | Standing::Bidding(_) => {}
+        }
+    }
+    Ok(())
+}
+
+// Every law holds of what the hall tells now. `before` is what it told before the last call.
+fn check_laws<S: Source>(
+    hall: &mut Hall<S>,
+    terms: &Terms,
+    before: &Seen,
+) -> Result<Seen, Trouble> {
     let Ok(Answer::Counted(counts)) = hall.perform(Call::AllCounts) else {
         return Err(Trouble::Unlawful);
     };
-    lawful(worth == seen.worth && counts_hold(terms, &seen, counts) && rivals_hold(terms, &seen))
+    let mut seen = look_at_carriers(hall, terms, before, counts)?;
+    look_at_jobs(hall, terms, &mut seen)?;
+    check_nets(terms, &seen)?;
+    let Ok(Answer::Worth(worth)) = hall.perform(Call::TotalWorth) else {
+        return Err(Trouble::Unlawful);
+    };
+    lawful(worth == seen.worth && counts_hold(terms, &seen, counts) && rivals_hold(terms, &seen))?;
+    Ok(seen)
+}
+
+// ---- the laws of a bid's end
+
+// A number with a sign; what is too large becomes the largest number there.
+fn signed(number: u64) -> i64 {
+    i64::try_from(number).unwrap_or(i64::MAX)
+}
+
+// A bid may be stale only if its best job's price is not what it was at the look, and only if a job was awarded since the summons.
+fn may_be_stale(before: &Seen, carrier: usize, best: Best) -> bool {
+    let net_now = signed(best.worth).saturating_sub(signed(before.price(best.job)));
+    let undisturbed = before.summoned_at.get(carrier) == Some(&before.awards);
+    net_now != best.net && !undisturbed
+}
+
+// What is bid is the price seen plus the best net, minus the runner-up, plus the step.
+fn is_paid_right(terms: &Terms, bid: Bid, best: Best, award: Award) -> bool {
+    let seen = signed(best.worth).saturating_sub(best.net);
+    let paid = signed(award.price).saturating_add(signed(bid.runner_up));
+    paid == seen
+        .saturating_add(best.net.max(0))
+        .saturating_add(signed(terms.step))
+}
+
+// The laws of a settle that ended a bid so. `before` is what the hall told just before it. A bid without a best job ends in an out.
+fn check_settle(
+    terms: &Terms,
+    before: &Seen,
+    carrier: usize,
+    verdict: Verdict,
+) -> Result<(), Trouble> {
+    let Some(Standing::Bidding(bid)) = before.standings.get(carrier).copied() else {
+        return Err(Trouble::Unlawful);
+    };
+    let Some(best) = bid.best else {
+        return lawful(verdict == Verdict::Out);
+    };
+    match verdict {
+        Verdict::Out => Ok(()),
+        Verdict::Stale => lawful(may_be_stale(before, carrier, best)),
+        Verdict::Awarded(award) => lawful(is_paid_right(terms, bid, best, award)),
+    }
 }
 
 // ---- random sheets and calls
@@ -239,13 +382,18 @@ fn play<S: Source + Drop>(
 ) -> Result<Answers, Trouble> {
     let mut hall = Hall::new(source);
     let mut answers = NO_ANSWERS;
+    let mut seen = NOTHING_SEEN;
     for (call, answer) in calls.iter().zip(answers.iter_mut()) {
         *answer = hall.perform(*call);
-        if let (Call::Start { step, lanes: _ }, Ok(Answer::Accepted)) = (*call, *answer) {
-            terms.step = step;
+        match (*call, *answer) {
+            (Call::Start { step, lanes: _ }, Ok(Answer::Accepted)) => terms.step = step,
+            (Call::Settle(carrier), Ok(Answer::Settled(verdict))) => {
+                check_settle(&terms, &seen, carrier, verdict)?;
+            }
+            _ => {}
         }
         sums.note(&terms);
-        check_laws(&mut hall, &terms)?;
+        seen = check_laws(&mut hall, &terms, &seen)?;
     }
     Ok(answers)
 }
