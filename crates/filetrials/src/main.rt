@@ -119,6 +119,7 @@ impl Tally {
 
     // Loads a file and writes it again, and counts what became of it.
     fn examine(&mut self, bytes: &[u8]) -> Result<(), AllocError> {
+        // Short tables of a fixed size, here and in the load that is compared: some sheets must not fit.
         let mut starts = [7usize; 6];
         let mut entries = [Entry { job: 9, worth: 9 }; 20];
         let mut out = [255u8; 160];

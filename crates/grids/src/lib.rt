@@ -11,7 +11,8 @@ use draws::Draw;
 // How many pairings there are, with those that give a carrier a job that it may not take: five choices for each of four carriers.
 const PAIRINGS: u32 = 625;
 
-// What each job is worth to each carrier, at most four of each; 0 where a carrier may not take a job.
+// What each job is worth to each carrier, at most four of each; 0 where a carrier may not take a job. The three numbers are
+// no `Heading`, since grids rest on no crate that the trials try; the worths are an array, since a grid is copied whole.
 #[derive(Clone, Copy, PartialEq, Eq, Debug)]
 pub struct Grid {
     pub carriers: usize,

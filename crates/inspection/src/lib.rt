@@ -83,6 +83,7 @@ mod tests {
     use super::*;
     use std::test::Fail;
 
+    // Written out: no library crate is for examples.
     const SHEET: [u8; 25] =
         *b"\x03\x03\x0e\x03\x00\x05\x01\x0a\x02\x01\x03\x00\x04\x01\x0b\x02\x03\x03\x00\x05\x01\x0e\x02\x08\x09";
 

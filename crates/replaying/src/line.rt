@@ -34,7 +34,8 @@ fn alone(word: &[u8]) -> Option<Said>
     }
 }
 
-// What a word and a number say. A times layer has a factor below 2^32.
+// What a word and a number say. A times layer has a factor below 2^32. Numbers become carriers and jobs by `as`, here and
+// below: the check proves that no bits are lost.
 fn with_one(word: &[u8], n: u64) -> Option<Said>
     ensures { result ≡ said_of_one word.now n }
 {

@@ -8,7 +8,8 @@ ghost use Rattle.texts.specs.declared.Failure.TheVariants.{Memory};
 use std::alloc::{AllocError, AllocFailed, Global};
 use std::fmt::Display;
 
-// Adds to a text what a value shows. It fails only for want of memory; what the text holds then is left open.
+// Adds to a text what a value shows. It fails only for want of memory; what the text holds then is left open. A crate of
+// this repository writes by `write!`; the call is here for others.
 pub fn append<D: Display + Drop>(text: &mut String, value: D) -> Result<(), AllocError>
     ensures { OnOk result (IfSome (D.output value) (λ bs. string_bytes text.new ≡ string_bytes text.old ++ bs)) }
 {
@@ -39,7 +40,8 @@ impl<E, T: Drop> From<AllocFailed<T>> for Failure<E> {
     }
 }
 
-// What a call prints, and why it refused what it was given, if it did.
+// What a call prints, and why it refused what it was given, if it did. No Result: a refusal is printed too, so there is a
+// text in each case.
 #[derive(Drop)]
 pub struct Printed<E> {
     pub text: String,
