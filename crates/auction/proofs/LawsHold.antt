@@ -1,7 +1,7 @@
 -- The laws of the auction, from the invariant.
-use Rattle.std.proofs.Common.{◌≡◌, ℕ, zero, suc, ◌+◌, ◌*◌, ◌^◌, ◌<◌, ◌≤◌, Bool, true, false, cond, eqb, leb, List, [], ◌∷◌, map, length, get_or, pos, ◌-ℤ◌, Some, None, sum_by, count_by, Option, sym, refl, ap, ◌∙◌, subst, ⊎_elim, mul-le-mul_left, arith}
+use Rattle.std.proofs.Common.{◌≡◌, ℕ, zero, suc, ◌+◌, ◌*◌, ◌^◌, ◌<◌, ◌≤◌, Bool, true, false, cond, eqb, leb, List, [], ◌∷◌, map, length, get_or, pos, ◌-ℤ◌, ◌<ℤ◌, Some, None, sum_by, count_by, Option, sym, refl, ap, ◌∙◌, subst, ⊎_elim, mul-le-mul_left, arith}
 use lib.Signed.{lt_z}
-use borrow.Author.Differences.{up, down, lt-true}
+use borrow.Author.Differences.{up, down, lt-true, lt_out, below_in}
 use Rattle.std.specs.List.{AllByRecursion}
 use Rattle.std.proofs.Math.Nat.{le-mul_of_pos_right}
 use Rattle.std.proofs.lemmas.Option.{none-some, same_Some}
@@ -209,10 +209,12 @@ module _ (m : Meaning) (sound : Sound m) (t : Tally) (law : Invariant m t) where
   left_out : (i j : ℕ) → i < m.carriers → standing_at t i ≡ Out → worth_of m i j ≤ price_at t j
   left_out i j l e = subst (StandingFits t.step t.prices (row_of m i)) e (law.fits i l) j
 
+  bid_sound : (i : ℕ) (b : Bid) (x : Best) → standing_at t i ≡ Bidding b → b.best ≡ Some x → BestSound m.jobs m.ceiling b.runner_up x
+  bid_sound i b x e q = subst (BidSound m.jobs m.ceiling b.runner_up) q (subst (StandingSound m.jobs m.ceiling) e (law.consistent.sound i))
+
   unmoved : (i : ℕ) (b : Bid) (x : Best) → standing_at t i ≡ Bidding b → b.best ≡ Some x → pos x.worth -ℤ pos (price_at t x.job) ≡ x.net → verdict_in t b ≡ Stale → ⊥
   unmoved i b x e q n v =
-      let g = subst (BidSound m.jobs m.ceiling b.runner_up) q (subst (StandingSound m.jobs m.ceiling) e (law.consistent.sound i)) in
-      never g (sym (ap (judged_best t.step t.prices t.holders b.runner_up) q) ∙ v)
+      never (bid_sound i b x e q) (sym (ap (judged_best t.step t.prices t.holders b.runner_up) q) ∙ v)
     where
       stale_not : (w : Verdict) → is_stale w ≡ false → w ≡ Stale → ⊥
       stale_not w a c = both_ways (is_stale w) a (ap is_stale c)
@@ -229,23 +231,23 @@ module _ (m : Meaning) (sound : Sound m) (t : Tally) (law : Invariant m t) where
           (λ _. stale_not _ refl))
           (λ _. stale_not _ refl)
 
-  paid_is : (i : ℕ) (b : Bid) (x : Best) (seen : ℕ) (a : Award) → standing_at t i ≡ Bidding b → b.best ≡ Some x → pos x.worth -ℤ pos seen ≡ x.net → verdict_in t b ≡ Awarded a →
-      a.price + b.runner_up ≡ seen + natural x.net + t.step
-  paid_is i b x seen a e q n v =
-      let g = subst (BidSound m.jobs m.ceiling b.runner_up) q (subst (StandingSound m.jobs m.ceiling) e (law.consistent.sound i)) in
-      pays g (sym (ap (judged_best t.step t.prices t.holders b.runner_up) q) ∙ v)
-    where
-      pays : BestSound m.jobs m.ceiling b.runner_up x → judged_best t.step t.prices t.holders b.runner_up (Some x) ≡ Awarded a →
-          a.price + b.runner_up ≡ seen + natural x.net + t.step
-      pays g =
-          cond_both {A = Verdict} (lt_z (pos 0) x.net) _ _ (λ w. w ≡ Awarded a → a.price + b.runner_up ≡ seen + natural x.net + t.step)
-          (λ up'. cond_both {A = Verdict} (leb (offer t.step b.runner_up x) (price_at t x.job)) _ _ (λ w. w ≡ Awarded a → a.price + b.runner_up ≡ seen + natural x.net + t.step)
-          (λ _ c. absurd (false≢true cc))
-          (λ _ c. let k : offer t.step b.runner_up x ≡ a.price = cc in
-          let p = lt-true (pos 0) x.net up' in let u = g.low_runner in let z = sides x.net in let o = natural-up x.net in
-          let w' : up x.net + seen ≡ x.worth + down x.net = subst (λ y. up y + seen ≡ x.worth + down y) n (net_is x.worth seen) in
-          omega (arith, k, p, u, z, o, w')))
-          (λ _ c. absurd (false≢true cc))
+  bid_is : (i : ℕ) (b : Bid) (x : Best) (seen : ℕ) → standing_at t i ≡ Bidding b → b.best ≡ Some x → pos x.worth -ℤ pos seen ≡ x.net → pos 0 <ℤ x.net →
+      offer t.step b.runner_up x + b.runner_up ≡ seen + natural x.net + t.step
+  bid_is i b x seen e q n above =
+      let g = bid_sound i b x e q in let u = g.low_runner in
+      let p = lt_out (pos 0) x.net above in let z = sides x.net in let o = natural-up x.net in
+      let w : up x.net + seen ≡ x.worth + down x.net = subst (λ y. up y + seen ≡ x.worth + down y) n (net_is x.worth seen) in
+      omega (arith, p, u, z, o, w)
+
+  paid_is : (i : ℕ) (b : Bid) (x : Best) (a : Award) → standing_at t i ≡ Bidding b → b.best ≡ Some x → verdict_in t b ≡ Awarded a →
+      (pos 0 <ℤ x.net) × (a.price ≡ offer t.step b.runner_up x)
+  paid_is i b x a e q v =
+      cond_both {A = Verdict} (lt_z (pos 0) x.net) _ _ (λ w. w ≡ Awarded a → (pos 0 <ℤ x.net) × (a.price ≡ offer t.step b.runner_up x))
+      (λ above. cond_both {A = Verdict} (leb (offer t.step b.runner_up x) (price_at t x.job)) _ _ (λ w. w ≡ Awarded a → (pos 0 <ℤ x.net) × (a.price ≡ offer t.step b.runner_up x))
+      (λ _ c. absurd (false≢true cc))
+      (λ _ c. (below_in (pos 0) x.net (lt-true (pos 0) x.net above), sym cc)))
+      (λ _ c. absurd (false≢true cc))
+      (sym (ap (judged_best t.step t.prices t.holders b.runner_up) q) ∙ v)
 
   pub lawful_laws : AuctionLaws m t
   lawful_laws = record {
@@ -257,6 +259,7 @@ module _ (m : Meaning) (sound : Sound m) (t : Tally) (law : Invariant m t) where
     left_out = left_out;
     unsold = law.consistent.unheld;
     unmoved = unmoved;
+    bid_is = bid_is;
     paid_is = paid_is;
     balance = law.consistent.balanced;
     few_awards = few_awards m.carriers m.jobs m.ceiling t law.consistent;

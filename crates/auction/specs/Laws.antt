@@ -1,5 +1,5 @@
 -- The laws of the auction, over pairings of carriers with jobs.
-use Rattle.std.specs.Prelude.{◌≡◌, ℕ, ◌+◌, ◌-◌, ◌*◌, ◌<◌, ◌≤◌, List, [], ◌∷◌, map, length, pos, ◌-ℤ◌, Some, None, count_by, Option, ◌≢◌, slice_index_or}
+use Rattle.std.specs.Prelude.{◌≡◌, ℕ, ◌+◌, ◌-◌, ◌*◌, ◌<◌, ◌≤◌, List, [], ◌∷◌, map, length, pos, ◌-ℤ◌, ◌<ℤ◌, Some, None, count_by, Option, ◌≢◌, slice_index_or}
 use Rattle.sources.specs.Meaning.{Meaning, worth_in, worth_of}
 use Rattle.sources.specs.Layers.{times_of}
 use Rattle.auction.specs.declared.standing.Award.{Award}
@@ -10,7 +10,7 @@ use Rattle.auction.specs.declared.standing.Verdict.TheVariants.{Stale, Awarded}
 use Rattle.auction.specs.declared.standing.Standing.{Standing}
 use Rattle.auction.specs.declared.standing.Standing.TheVariants.{Waiting, Bidding, Served, Out}
 use Rattle.auction.specs.Tally.{Tally, price_at, holder_at, standing_at, is_served, is_bidding, total_worth}
-use Rattle.auction.specs.Bids.{natural}
+use Rattle.auction.specs.Bids.{natural, offer}
 use Rattle.auction.specs.Rules.{verdict_in}
 
 -- Each carrier's job, if it has one: its worth is above 0, and no job is given twice.
@@ -79,9 +79,12 @@ pub record AuctionLaws (m : Meaning) (t : Tally) : Type 0 where
   pub unsold : (j : ℕ) → holder_at t j ≡ None → price_at t j ≡ 0
   -- A bid is not stale if its best job costs what it cost when it was looked at.
   pub unmoved : (i : ℕ) (b : Bid) (x : Best) → standing_at t i ≡ Bidding b → b.best ≡ Some x → pos x.worth -ℤ pos (price_at t x.job) ≡ x.net → verdict_in t b ≢ Stale
-  -- What is bid is the price seen plus the best net, minus the runner-up, plus the step.
-  pub paid_is : (i : ℕ) (b : Bid) (x : Best) (seen : ℕ) (a : Award) → standing_at t i ≡ Bidding b → b.best ≡ Some x → pos x.worth -ℤ pos seen ≡ x.net → verdict_in t b ≡ Awarded a →
-      a.price + b.runner_up ≡ seen + natural x.net + t.step
+  -- A bid is the price seen plus the best net, minus the runner-up, plus the step.
+  pub bid_is : (i : ℕ) (b : Bid) (x : Best) (seen : ℕ) → standing_at t i ≡ Bidding b → b.best ≡ Some x → pos x.worth -ℤ pos seen ≡ x.net → pos 0 <ℤ x.net →
+      offer t.step b.runner_up x + b.runner_up ≡ seen + natural x.net + t.step
+  -- Only for a best net above 0 is a job awarded, and it then costs what was bid.
+  pub paid_is : (i : ℕ) (b : Bid) (x : Best) (a : Award) → standing_at t i ≡ Bidding b → b.best ≡ Some x → verdict_in t b ≡ Awarded a →
+      (pos 0 <ℤ x.net) × (a.price ≡ offer t.step b.runner_up x)
   -- Every summons ended in an award, a stale bid or an out, or is an open bid.
   pub balance : t.counts.summonses ≡ t.counts.awards + t.counts.stales + t.counts.outs + bidding t
   pub few_awards : t.counts.awards ≤ m.jobs * (m.ceiling + t.step)
