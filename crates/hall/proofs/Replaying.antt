@@ -37,10 +37,10 @@ beyond_more xs ys zs i a l h e =
     ap (drop (i + 1)) e ∙ drop-set-lt (i + 1) xs i a (omega arith) ∙ sym (drop-drop 1 i xs) ∙ ap (drop 1) h ∙ drop-drop 1 i zs
 
 pub replay_done : (m : Meaning) → Sound m → (calls : List Call) (i : ℕ) (before after : List (Result Answer Refusal)) (b : Option Books) → length calls ≤ i → i ≤ length calls →
-    tally_of m b ≡ tally_after m (take i calls) → take i after ≡ answers_from m None (take i calls) → drop i after ≡ drop i before → Replayed m calls before after b
+    tally_of b ≡ tally_after m (take i calls) → take i after ≡ answers_from m None (take i calls) → drop i after ≡ drop i before → Replayed m calls before after b
 replay_done m s calls i before after b l l' t a d =
     let e : i ≡ length calls = omega arith in
-    let t' : tally_of m b ≡ tally_after m calls = t ∙ ap (tally_after m) (take_all i calls l) in
+    let t' : tally_of b ≡ tally_after m calls = t ∙ ap (tally_after m) (take_all i calls l) in
     record {
       answered = sym (take-append-drop i after) ∙ ap (λ z. z ++ drop i after) (a ∙ ap (answers_from m None) (take_all i calls l))
           ∙ ap (λ z. answers_from m None calls ++ z) (d ∙ ap (λ n. drop n before) e);
@@ -53,13 +53,13 @@ replay_done m s calls i before after b l l' t a d =
 -- ---- the same, where the hall's source is known to be the one that was given
 
 module _ {S : Type 0} (mean : S → Meaning) (s s' : S) (same : s' ≡ s) (b : Option Books) (calls : List Call) (i : ℕ) (c : Call) (l : i < length calls)
-    (before : tally_of (mean s) b ≡ tally_after (mean s) (take i calls)) where
-  pub tally_performed : (b' : Option Books) → tally_of (mean s') b' ≡ tally_by (mean s') (tally_of (mean s') b) (get_or calls i c) → tally_of (mean s) b' ≡ tally_after (mean s) (take (i + 1) calls)
+    (before : tally_of b ≡ tally_after (mean s) (take i calls)) where
+  pub tally_performed : (b' : Option Books) → tally_of b' ≡ tally_by (mean s') (tally_of b) (get_or calls i c) → tally_of b' ≡ tally_after (mean s) (take (i + 1) calls)
   tally_performed b' now =
-      tally_more (mean s) calls i c l (tally_of (mean s) b) (tally_of (mean s) b') before
-      (subst (λ z. tally_of (mean z) b' ≡ tally_by (mean z) (tally_of (mean z) b) (get_or calls i c)) same now)
+      tally_more (mean s) calls i c l (tally_of b) (tally_of b') before
+      (subst (λ z. tally_of b' ≡ tally_by (mean z) (tally_of b) (get_or calls i c)) same now)
 
-  pub answer_performed : (a : Result Answer Refusal) (xs : List (Result Answer Refusal)) → a ≡ answer_to (mean s') (tally_of (mean s') b) (get_or calls i c) → i < length xs →
+  pub answer_performed : (a : Result Answer Refusal) (xs : List (Result Answer Refusal)) → a ≡ answer_to (mean s') (tally_of b) (get_or calls i c) → i < length xs →
       take i xs ≡ answers_from (mean s) None (take i calls) → take (i + 1) (set xs i a) ≡ answers_from (mean s) None (take (i + 1) calls)
   answer_performed a xs now l' h =
-      answer_more (mean s) calls i c l (tally_of (mean s) b) a xs (set xs i a) before (subst (λ z. a ≡ answer_to (mean z) (tally_of (mean z) b) (get_or calls i c)) same now) l' h refl
+      answer_more (mean s) calls i c l (tally_of b) a xs (set xs i a) before (subst (λ z. a ≡ answer_to (mean z) (tally_of b) (get_or calls i c)) same now) l' h refl

@@ -13,10 +13,10 @@ NotedOf m b = b.noted ≡ heading_of m
 abbrev pub tally_in : Books → Tally
 tally_in b = tally_held b.noted b.step b.lanes b.lots b.standings b.counts
 
--- None where the hall was never started. It is said with the source's meaning m, though books hold the same tally for any: a hall's are always those of its source.
-abbrev pub tally_of : Meaning → Option Books → Option Tally
-tally_of m None = None
-tally_of m (Some b) = Some (tally_in b)
+-- None where the hall was never started.
+abbrev pub tally_of : Option Books → Option Tally
+tally_of None = None
+tally_of (Some b) = Some (tally_in b)
 
 -- There was a tally before, there is one after, and the relation holds of the two.
 pub record Between (relation : Tally → Tally → Type 0) (old new : Option Tally) : Type 0 where

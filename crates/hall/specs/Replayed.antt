@@ -14,9 +14,9 @@ use Rattle.hall.specs.InBooks.{tally_of}
 -- Each answer is the tally's after the calls before it; places behind the answers are as they were; the books hold the tally of the list; and the laws of the auction hold of it, if it was started.
 pub record Replayed (m : Meaning) (calls : List Call) (before after : List (Result Answer Refusal)) (b : Option Books) : Type 0 where
   pub answered : after ≡ answers_from m None calls ++ drop (length calls) before
-  pub tallied : tally_of m b ≡ tally_after m calls
+  pub tallied : tally_of b ≡ tally_after m calls
   -- It was started exactly if a start of the list was accepted.
-  pub started : is_some (tally_of m b) ≡ has_start m calls
-  pub lawful : (t : Tally) → tally_of m b ≡ Some t → AuctionLaws m t
+  pub started : is_some (tally_of b) ≡ has_start m calls
+  pub lawful : (t : Tally) → tally_of b ≡ Some t → AuctionLaws m t
   -- A bid that no award came between is never stale.
   pub undisturbed : NeverStale m calls

@@ -7,6 +7,6 @@ use Rattle.auction.specs.Tally.{Tally}
 use Rattle.hall.specs.InBooks.{tally_of}
 
 pub record Ruled {A : Type 0} (answer : Meaning → Option Tally → Result A Refusal) (tally : Meaning → Option Tally → Option Tally) (m : Meaning) (old new : Option Books) (r : Result A Refusal) : Type 0 where
-  pub answered : r ≡ answer m (tally_of m old)
-  pub tallied : tally_of m new ≡ tally m (tally_of m old)
+  pub answered : r ≡ answer m (tally_of old)
+  pub tallied : tally_of new ≡ tally m (tally_of old)
   pub refused : is_ok r ≡ false → new ≡ old

@@ -28,7 +28,7 @@ impl<S: Source> Hall<S> {
     // A hall that was never started.
     pub fn new(source: S) -> Self
         ensures kept { result.source ≡ source }
-        ensures tallied { tally_of (S.meaning source) result.books ≡ None }
+        ensures tallied { tally_of result.books ≡ None }
     {
         Hall {
             source,
@@ -62,7 +62,7 @@ impl<S: Source> Hall<S> {
     // Refused, in this order: never started, carrier number too large, no open bid, row fully looked at.
     pub fn look(&mut self, carrier: usize) -> Result<(), Refusal>
         ensures ruled { Ruled (look_answer carrier) (look_tally carrier) (S.meaning self.old.source) self.old.books self.new.books result }
-        ensures looks { OnOk result (Between (Looks (S.meaning self.old.source) carrier) (tally_of (S.meaning self.old.source) self.old.books) (tally_of (S.meaning self.old.source) self.new.books)) }
+        ensures looks { OnOk result (Between (Looks (S.meaning self.old.source) carrier) (tally_of self.old.books) (tally_of self.new.books)) }
         ensures kept { self.new.source ≡ self.old.source }
     {
         self.books
@@ -87,7 +87,7 @@ impl<S: Source> Hall<S> {
     // Refused, in this order: never started, depth outside 1 to 128.
     pub fn run(&mut self, depth: usize, budget: u64) -> Result<Report, Refusal>
         ensures ruled { Ruled (run_answer depth budget) (run_tally depth budget) (S.meaning self.old.source) self.old.books self.new.books result }
-        ensures reported { IfOk result (λ p. Between (λ t u. Reports budget t u p) (tally_of (S.meaning self.old.source) self.old.books) (tally_of (S.meaning self.old.source) self.new.books)) }
+        ensures reported { IfOk result (λ p. Between (λ t u. Reports budget t u p) (tally_of self.old.books) (tally_of self.new.books)) }
         ensures kept { self.new.source ≡ self.old.source }
     {
         self.books
@@ -106,35 +106,35 @@ impl<S: Source> Hall<S> {
 
     // The price of a job. Refused, in this order: never started, job number too large.
     pub fn price(&self, job: usize) -> Result<u64, Refusal>
-        ensures { result ≡ price_answer job (S.meaning self.now.source) (tally_of (S.meaning self.now.source) self.now.books) }
+        ensures { result ≡ price_answer job (S.meaning self.now.source) (tally_of self.now.books) }
     {
         self.opened()?.price(job)
     }
 
     // The carrier that holds a job, if there is one. Refused as the price is.
     pub fn holder(&self, job: usize) -> Result<Option<usize>, Refusal>
-        ensures { result ≡ holder_answer job (S.meaning self.now.source) (tally_of (S.meaning self.now.source) self.now.books) }
+        ensures { result ≡ holder_answer job (S.meaning self.now.source) (tally_of self.now.books) }
     {
         self.opened()?.holder(job)
     }
 
     // A carrier's standing, with its unfinished bid. Refused, in this order: never started, carrier number too large.
     pub fn standing(&self, carrier: usize) -> Result<Standing, Refusal>
-        ensures { result ≡ standing_answer carrier (S.meaning self.now.source) (tally_of (S.meaning self.now.source) self.now.books) }
+        ensures { result ≡ standing_answer carrier (S.meaning self.now.source) (tally_of self.now.books) }
     {
         self.opened()?.standing(carrier)
     }
 
     // The total worth of the jobs that are held. Refused if never started.
     pub fn worth(&self) -> Result<u64, Refusal>
-        ensures { result ≡ worth_answer (S.meaning self.now.source) (tally_of (S.meaning self.now.source) self.now.books) }
+        ensures { result ≡ worth_answer (S.meaning self.now.source) (tally_of self.now.books) }
     {
         Ok(self.opened()?.worth())
     }
 
     // The counts of summonses, awards, stale bids and outs. Refused if never started.
     pub fn counts(&self) -> Result<Counts, Refusal>
-        ensures { result ≡ counts_answer (S.meaning self.now.source) (tally_of (S.meaning self.now.source) self.now.books) }
+        ensures { result ≡ counts_answer (S.meaning self.now.source) (tally_of self.now.books) }
     {
         Ok(self.opened()?.counts())
     }
@@ -142,8 +142,8 @@ impl<S: Source> Hall<S> {
     // Makes one call, and gives its answer.
     #[tactic(auto, unfolding(auction::specs::Calls::answer_to, auction::specs::Calls::tally_by))]
     pub fn perform(&mut self, call: Call) -> Result<Answer, Refusal>
-        ensures answered { result ≡ answer_to (S.meaning self.old.source) (tally_of (S.meaning self.old.source) self.old.books) call }
-        ensures tallied { tally_of (S.meaning self.old.source) self.new.books ≡ tally_by (S.meaning self.old.source) (tally_of (S.meaning self.old.source) self.old.books) call }
+        ensures answered { result ≡ answer_to (S.meaning self.old.source) (tally_of self.old.books) call }
+        ensures tallied { tally_of self.new.books ≡ tally_by (S.meaning self.old.source) (tally_of self.old.books) call }
         ensures refused { is_ok result ≡ false → self.new.books ≡ self.old.books }
         ensures kept { self.new.source ≡ self.old.source }
     {

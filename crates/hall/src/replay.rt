@@ -17,7 +17,7 @@ pub fn replay<S: Source>(
     ensures kept { result.0.source ≡ source }
     ensures fits { result.1 ≡ (if nat_le (length calls.now) (length answers.old) then Ok tt else Err Refusal.TooShort) }
     ensures replayed { is_ok result.1 ≡ true → Replayed (S.meaning source) calls.now answers.old answers.new result.0.books }
-    ensures refused { is_ok result.1 ≡ false → (answers.new ≡ answers.old) × (tally_of (S.meaning source) result.0.books ≡ None) }
+    ensures refused { is_ok result.1 ≡ false → (answers.new ≡ answers.old) × (tally_of result.0.books ≡ None) }
 {
     let mut hall = Hall::new(source);
     if calls.len() > answers.len() {

@@ -95,7 +95,7 @@ times_some g w some =
 -- ---- what a replay of the two calls shows
 
 module _ (m : Meaning) (n : ℕ) (is : n ≡ m.carriers) (before after : List (Result Answer Refusal)) (b : Option Books) (r : Replayed (times_of (n + 1) m) two_calls before after b) where
-  pub tally_is : tally_of (times_of (n + 1) m) b ≡ auctioned m
+  pub tally_is : tally_of b ≡ auctioned m
   unfolding auctioned
   tally_is = r.tallied ∙ ap (λ k. tally_after (times_of (k + 1) m) two_calls) is
 
@@ -130,11 +130,11 @@ module _ (m : Meaning) (n : ℕ) (is : n ≡ m.carriers) (before after : List (R
       subst (λ o. Ends o (Err e) ss) (sym (auction_is m ∙ w.1)) (ap Err w.0)
 
   -- the standing of a carrier, as the hall tells it
-  pub standing_told : (t : Tally) → auctioned m ≡ Some t → (i : ℕ) → i < n → standing_answer i (times_of (n + 1) m) (tally_of (times_of (n + 1) m) b) ≡ Ok (standing_at t i)
+  pub standing_told : (t : Tally) → auctioned m ≡ Some t → (i : ℕ) → i < n → standing_answer i (times_of (n + 1) m) (tally_of b) ≡ Ok (standing_at t i)
   standing_told t e i inside =
       ap (standing_answer i (times_of (n + 1) m)) (tally_is ∙ e) ∙ cond-true (ltb i m.carriers) (Ok (standing_at t i)) (Err NoSuchCarrier) (lt-ltb i m.carriers (omega (arith, is)))
 
-  pub ends_well : (d : Result Answer Refusal) (a : Answer) (c : Result Counts Refusal) (ss : List Standing) → get_or after 0 d ≡ Ok a → c ≡ counts_answer (times_of (n + 1) m) (tally_of (times_of (n + 1) m) b) →
+  pub ends_well : (d : Result Answer Refusal) (a : Answer) (c : Result Counts Refusal) (ss : List Standing) → get_or after 0 d ≡ Ok a → c ≡ counts_answer (times_of (n + 1) m) (tally_of b) →
       length ss ≡ n → ((t : Tally) → auctioned m ≡ Some t → (k : ℕ) → k < n → get_or ss k Out ≡ standing_at t k) → Ends (auctioned m) c ss
   ends_well d a c ss first counted long each =
       let w = accepted_some (running m) (begun m) (start_answer 1 8 (timed m)) a (sym (first_is d) ∙ first) in

@@ -1,10 +1,12 @@
 -- The rules answer as the worked runs say.
-use Rattle.std.proofs.Common.{refl, lit≤}
+use Rattle.std.proofs.Common.{◌≡◌, ℕ, zero, suc, ◌<◌, get_or, Some, None, refl, subst, lit≤, arith}
+use Rattle.std.proofs.lemmas.Option.{none-some, same_Some}
+use Rattle.sources.specs.Meaning.{worth_of}
 use Rattle.auction.specs.Bids.{weighed}
 use Rattle.auction.specs.Rules.{opened, bid_at}
 use Rattle.auction.specs.Runs.{beginning, one_step, many_steps, ran}
 use Rattle.auction.specs.Calls.{answer_to, tally_by}
-use Rattle.worked.specs.Runs.{Plays, WideRival, empty_row, net_above, net_below, net_zero, no_entries, one_by_one, one_job, smaller_job, table, three_in_flight, two_alike, wide, wide_step}
+use Rattle.worked.specs.Runs.{Plays, StaleBid, WideRival, empty_row, net_above, net_below, net_zero, no_entries, one_by_one, one_job, smaller_job, table, three_in_flight, two_alike, wide, wide_rival, wide_step}
 
 pub one_by_one_played : Plays table one_by_one
 unfolding weighed opened bid_at beginning one_step many_steps ran answer_to tally_by
@@ -38,5 +40,27 @@ pub empty_row_played : Plays no_entries empty_row
 unfolding weighed opened bid_at beginning one_step many_steps ran answer_to tally_by
 empty_row_played = refl
 
-pub wide_rival : WideRival
-wide_rival = record { rival = refl; within = lit≤ tt }
+-- The bid of 7 against a price of 8.
+pub stale_bid : StaleBid
+stale_bid = record { bid = refl; stale = refl }
+
+-- Carrier 0 with job 1 and carrier 1 with job 0.
+rival_worthy : (i j : ℕ) → get_or wide_rival i None ≡ Some j → 0 < worth_of wide i j
+rival_worthy zero j e = subst (λ k. 0 < worth_of wide 0 k) (same_Some _ _ e) (lit≤ tt)
+rival_worthy (suc zero) j e = subst (λ k. 0 < worth_of wide 1 k) (same_Some _ _ e) (lit≤ tt)
+rival_worthy (suc (suc i)) j e = absurd (none-some _ e)
+
+rival_apart : (i k j : ℕ) → get_or wide_rival i None ≡ Some j → get_or wide_rival k None ≡ Some j → i ≡ k
+rival_apart zero zero j p q = refl
+rival_apart zero (suc zero) j p q = let a = same_Some _ _ p in let b = same_Some _ _ q in absurd (omega (arith, a, b))
+rival_apart (suc zero) zero j p q = let a = same_Some _ _ p in let b = same_Some _ _ q in absurd (omega (arith, a, b))
+rival_apart (suc zero) (suc zero) j p q = refl
+rival_apart i (suc (suc k)) j p q = absurd (none-some _ q)
+rival_apart (suc (suc i)) k j p q = absurd (none-some _ p)
+
+pub rival_within : WideRival
+rival_within = record {
+  pairing = record { sized = refl; worthy = rival_worthy; apart = rival_apart };
+  rival = refl;
+  within = lit≤ tt;
+}

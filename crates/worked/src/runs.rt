@@ -2,7 +2,7 @@
 ghost use Rattle.std.specs.Prelude.{◌≡◌, ◌≤◌, None, Ok};
 ghost use Rattle.sources.specs.Sheets.{fill_verdict, sheet_of};
 ghost use Rattle.auction.specs.Calls.{answers_from};
-ghost use Rattle.worked.specs.Runs.{Plays, WideRival, answers_in, calls_in, empty_row, net_above, net_below, net_zero, no_entries, one_by_one, one_job, smaller_job, table, three_in_flight, two_alike, wide, wide_step};
+ghost use Rattle.worked.specs.Runs.{Plays, StaleBid, WideRival, answers_in, calls_in, empty_row, net_above, net_below, net_zero, no_entries, one_by_one, one_job, smaller_job, table, three_in_flight, two_alike, wide, wide_step};
 
 use auction::call::{Answer, Call};
 use hall::replay::replay;
@@ -94,10 +94,11 @@ pub fn one_by_one() -> [Result<Answer, Refusal>; 19]
 }
 
 // Depth 3: three carriers bid, and one bid turns stale.
-#[tactic(auto, using(crate::proofs::Played::three_in_flight_played))]
+#[tactic(auto, using(crate::proofs::Played::three_in_flight_played, crate::proofs::Played::stale_bid))]
 pub fn three_in_flight() -> [Result<Answer, Refusal>; 16]
     ensures value { result ≡ answers_in three_in_flight }
     ensures worked { Plays table three_in_flight }
+    ensures bid { StaleBid }
 {
     let start = Call::Start { step: 1, lanes: 4 };
     let calls = [
@@ -219,7 +220,7 @@ pub fn smaller_job() -> [Result<Answer, Refusal>; 5]
 }
 
 // Rows 10 9 and 10 1, with a step of 10.
-#[tactic(auto, using(crate::proofs::Played::wide_step_played, crate::proofs::Played::wide_rival))]
+#[tactic(auto, using(crate::proofs::Played::wide_step_played, crate::proofs::Played::rival_within))]
 pub fn wide_step() -> [Result<Answer, Refusal>; 7]
     ensures value { result ≡ answers_in wide_step }
     ensures worked { Plays wide wide_step }

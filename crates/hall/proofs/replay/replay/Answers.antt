@@ -1,6 +1,5 @@
-use Rattle.std.proofs.Common.{◌<◌, length, refl, ap, ◌∙◌, subst, arith}
+use Rattle.std.proofs.Common.{◌<◌, length, refl, ◌∙◌, subst, arith}
 use Rattle.auction.specs.Calls.{tally_from}
-use Rattle.hall.specs.InBooks.{tally_of}
 use Rattle.hall.specs.Replayed.{Replayed}
 use Rattle.hall.proofs.Replaying.{tally_performed, answer_performed, beyond_more, replay_done}
 use Rattle.hall.proofs.replay.replay.Goals as goal
@@ -9,7 +8,7 @@ pub loop-i-init : goal.loop-i-init
 unfolding tally_from
 loop-i-init g c = (
   refl,
-  ap (λ s. tally_of (g.S.Source.meaning s) c.new-hall.result.books) c.new-hall.ensures.kept ∙ c.new-hall.ensures.tallied,
+  c.new-hall.ensures.tallied,
   refl,
   refl,
 )

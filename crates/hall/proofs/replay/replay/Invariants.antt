@@ -7,6 +7,6 @@ use Rattle.hall.proofs.replay.replay.Given as goal
 abbrev pub invariant-loop-i : goal.invariant-loop-i
 invariant-loop-i g l =
     (l.hall.source ≡ l.initial.hall.source)
-    × (tally_of (g.S.Source.meaning l.initial.hall.source) l.hall.books ≡ tally_after (g.S.Source.meaning l.initial.hall.source) (take l.i l.calls))
+    × (tally_of l.hall.books ≡ tally_after (g.S.Source.meaning l.initial.hall.source) (take l.i l.calls))
     × (take l.i l.answers ≡ answers_from (g.S.Source.meaning l.initial.hall.source) None (take l.i l.calls))
     × (drop l.i l.answers ≡ drop l.i l.initial.answers)
