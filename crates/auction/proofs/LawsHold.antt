@@ -22,7 +22,7 @@ use Rattle.auction.specs.Tally.{Tally, price_at, holder_at, standing_at, is_serv
 use Rattle.auction.specs.Bids.{natural, offer, judged_best}
 use Rattle.auction.specs.Rules.{verdict_in}
 use Rattle.auction.specs.Consistent.{BestSound, BidSound, StandingSound}
-use Rattle.auction.specs.Laws.{Pairing, Slack, given_worth, worth_along, worth, job_served, Done, pairing_of, served, Among, AuctionLaws}
+use Rattle.auction.specs.Laws.{Pairing, Slack, given_worth, worth_along, worth, job_served, ServedOrOut, pairing_of, served, Among, AuctionLaws}
 use Rattle.auction.proofs.Matching.{served_within, holder_of, holder_served}
 use Rattle.auction.proofs.Paid.{price_of, paid, paid_distinct, paid_covers}
 use Rattle.auction.proofs.Nets.{sides, net_is, natural-up}
@@ -53,7 +53,7 @@ valued_one step ps row (Bidding b) f = refl
 valued_one step ps row (Served h) f = sym f.worth_is
 valued_one step ps row Out f = refl
 
-bound_one : (step : ℕ) (ps : List ℕ) (row : List (ℕ × ℕ)) (o : Option ℕ) (s : Standing) → StandingFits step ps row s → ((j : ℕ) → o ≡ Some j → Done s) →
+bound_one : (step : ℕ) (ps : List ℕ) (row : List (ℕ × ℕ)) (o : Option ℕ) (s : Standing) → StandingFits step ps row s → ((j : ℕ) → o ≡ Some j → ServedOrOut s) →
     given_worth row o + price_of ps (job_served s) ≤ worth_served s + step * cond (is_served s) 1 0 + price_of ps o
 bound_one step ps row None Waiting f d = omega arith
 bound_one step ps row None (Bidding b) f d = omega arith
@@ -80,7 +80,7 @@ module _ (step : ℕ) (ps : List ℕ) where
       omega (arith, one, rest, c)
 
   bound_along : (rows : List (List (ℕ × ℕ))) (ss : List Standing) (p : List (Option ℕ)) → length ss ≡ length rows → length p ≡ length rows → AllFit rows ss →
-      ((i j : ℕ) → get_or p i None ≡ Some j → Done (get_or ss i Out)) →
+      ((i j : ℕ) → get_or p i None ≡ Some j → ServedOrOut (get_or ss i Out)) →
       worth_along rows p + paid ps (map job_served ss) ≤ sum_by worth_served ss + step * count_by is_served ss + paid ps p
   bound_along [] [] [] l k f d = omega arith
   bound_along [] [] (o ∷ p) l k f d = absurd (omega arith)

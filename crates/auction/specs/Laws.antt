@@ -39,11 +39,11 @@ job_served (Served h) = Some h.job
 job_served Out = None
 
 -- Served or out.
-abbrev pub Done : Standing → Type 0
-Done Waiting = ⊥
-Done (Bidding b) = ⊥
-Done (Served h) = Unit {0}
-Done Out = Unit {0}
+abbrev pub ServedOrOut : Standing → Type 0
+ServedOrOut Waiting = ⊥
+ServedOrOut (Bidding b) = ⊥
+ServedOrOut (Served h) = Unit {0}
+ServedOrOut Out = Unit {0}
 
 abbrev pub pairing_of : Tally → List (Option ℕ)
 pairing_of t = map job_served t.standings
@@ -56,7 +56,7 @@ bidding t = count_by is_bidding t.standings
 
 -- The pairing gives jobs to no carrier but those that are served or out.
 abbrev pub Among : Tally → List (Option ℕ) → Type 0
-Among t p = (i j : ℕ) → slice_index_or p i None ≡ Some j → Done (standing_at t i)
+Among t p = (i j : ℕ) → slice_index_or p i None ≡ Some j → ServedOrOut (standing_at t i)
 
 -- A served carrier is within one step of its best net at the prices now, and of 0.
 pub record Slack (m : Meaning) (t : Tally) (i : ℕ) (h : Held) : Type 0 where

@@ -81,9 +81,9 @@ bid_by m i act None = Err NeverStarted
 bid_by m i act (Some t) = bid_at m i act t
 
 -- Summon and look tell only success.
-abbrev pub done : Result Bid Refusal → Result (Unit {0}) Refusal
-done (Ok b) = Ok tt
-done (Err e) = Err e
+abbrev pub success_of : Result Bid Refusal → Result (Unit {0}) Refusal
+success_of (Ok b) = Ok tt
+success_of (Err e) = Err e
 
 -- A refused call leaves the tally as it was.
 abbrev pub taken : Result Bid Refusal → (Bid → Tally → Tally) → Tally → Tally
@@ -119,13 +119,13 @@ abbrev pub called : Meaning → ℕ → Act → Tally → Tally
 called m i act t = taken (bid_at m i act t) (bids act i) t
 
 abbrev pub summon_answer : ℕ → Meaning → Option Tally → Result (Unit {0}) Refusal
-summon_answer i m o = done (bid_by m i Summon o)
+summon_answer i m o = success_of (bid_by m i Summon o)
 
 abbrev pub summon_tally : ℕ → Meaning → Option Tally → Option Tally
 summon_tally i m o = once (called m i Summon) o
 
 abbrev pub look_answer : ℕ → Meaning → Option Tally → Result (Unit {0}) Refusal
-look_answer i m o = done (bid_by m i Look o)
+look_answer i m o = success_of (bid_by m i Look o)
 
 abbrev pub look_tally : ℕ → Meaning → Option Tally → Option Tally
 look_tally i m o = once (called m i Look) o

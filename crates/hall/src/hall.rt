@@ -97,8 +97,8 @@ impl<S: Source> Hall<S> {
     }
 
     // The books, if the hall was started.
-    fn opened(&self) -> Result<&Books, Refusal>
-        ensures opened { IfOk result (λ b. self.now.books ≡ Some b.now) }
+    fn started(&self) -> Result<&Books, Refusal>
+        ensures started { IfOk result (λ b. self.now.books ≡ Some b.now) }
         ensures never { IfErr result (λ e. (e ≡ Refusal.NeverStarted) × (self.now.books ≡ None)) }
     {
         self.books.as_ref().ok_or(Refusal::NeverStarted)
@@ -108,35 +108,35 @@ impl<S: Source> Hall<S> {
     pub fn price(&self, job: usize) -> Result<u64, Refusal>
         ensures { result ≡ price_answer job (S.meaning self.now.source) (tally_of self.now.books) }
     {
-        self.opened()?.price(job)
+        self.started()?.price(job)
     }
 
     // The carrier that holds a job, if there is one. Refused as the price is.
     pub fn holder(&self, job: usize) -> Result<Option<usize>, Refusal>
         ensures { result ≡ holder_answer job (S.meaning self.now.source) (tally_of self.now.books) }
     {
-        self.opened()?.holder(job)
+        self.started()?.holder(job)
     }
 
     // A carrier's standing, with its unfinished bid. Refused, in this order: never started, carrier number too large.
     pub fn standing(&self, carrier: usize) -> Result<Standing, Refusal>
         ensures { result ≡ standing_answer carrier (S.meaning self.now.source) (tally_of self.now.books) }
     {
-        self.opened()?.standing(carrier)
+        self.started()?.standing(carrier)
     }
 
     // The total worth of the jobs that are held. Refused if never started.
     pub fn worth(&self) -> Result<u64, Refusal>
         ensures { result ≡ worth_answer (S.meaning self.now.source) (tally_of self.now.books) }
     {
-        Ok(self.opened()?.worth())
+        Ok(self.started()?.worth())
     }
 
     // The counts of summonses, awards, stale bids and outs. Refused if never started.
     pub fn counts(&self) -> Result<Counts, Refusal>
         ensures { result ≡ counts_answer (S.meaning self.now.source) (tally_of self.now.books) }
     {
-        Ok(self.opened()?.counts())
+        Ok(self.started()?.counts())
     }
 
     // Makes one call, and gives its answer.

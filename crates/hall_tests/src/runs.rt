@@ -31,6 +31,17 @@ fn a_run_to_its_end(rt: HostRuntime) -> Result<(), Fail> {
     Ok(())
 }
 
+// What carrier 2 finds in its row while every price is 0.
+const BID_OF_CARRIER_2: Bid = Bid {
+    looked: 3,
+    best: Some(Best {
+        net: 14,
+        job: 1,
+        worth: 14,
+    }),
+    runner_up: 8,
+};
+
 // Depth 3: a run that is spent goes on with the next one, and one bid turns stale.
 #[test]
 fn a_spent_run_goes_on(rt: HostRuntime) -> Result<(), Fail> {
@@ -47,17 +58,7 @@ fn a_spent_run_goes_on(rt: HostRuntime) -> Result<(), Fail> {
         ending: Ending::Spent,
     };
     assert_eq!(rt; hall.run(3, 6), Ok(first));
-    let best = Best {
-        net: 14,
-        job: 1,
-        worth: 14,
-    };
-    let bid = Bid {
-        looked: 3,
-        best: Some(best),
-        runner_up: 8,
-    };
-    assert_eq!(rt; hall.standing(2), Ok(Standing::Bidding(bid)));
+    assert_eq!(rt; hall.standing(2), Ok(Standing::Bidding(BID_OF_CARRIER_2)));
     let rest = Report {
         steps: 9,
         counts: Counts {

@@ -21,7 +21,7 @@ use Rattle.auction.specs.Rules.{between, bid_at, bids, carried_out, ended, once,
 use Rattle.auction.specs.declared.standing.Act.TheVariants.{Settle}
 use Rattle.auction.specs.Runs.{beginning, ran}
 use Rattle.auction.specs.Calls.{accepted, answer_to, counts_answer, standing_answer, tally_after, tally_by, tally_from, told}
-use Rattle.auction.specs.Laws.{AuctionLaws, Done, job_served}
+use Rattle.auction.specs.Laws.{AuctionLaws, ServedOrOut, job_served}
 use Rattle.auction.proofs.Steps.{steps_hold}
 use Rattle.hall.specs.declared.books.Books.{Books}
 use Rattle.hall.specs.InBooks.{tally_of}
@@ -121,7 +121,7 @@ module _ (m : Meaning) (n : ℕ) (is : n ≡ m.carriers) (before after : List (R
           apart = law.own.apart;
         };
         best = λ all p pairing. law.exact m (n + 1) refl above p pairing
-            (λ i j _. ⊎_elim (λ inside. All-get_or Done t.standings i Out inside all) (λ past. subst Done (sym (get_or_past t.standings i Out past)) tt) (cases_lt i (length t.standings)));
+            (λ i j _. ⊎_elim (λ inside. All-get_or ServedOrOut t.standings i Out inside all) (λ past. subst ServedOrOut (sym (get_or_past t.standings i Out past)) tt) (cases_lt i (length t.standings)));
       }
 
   pub ends_refused : (e : Refusal) (d : Result Answer Refusal) (ss : List Standing) → get_or after 0 d ≡ Err e → Ends (auctioned m) (Err e) ss

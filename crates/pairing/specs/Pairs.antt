@@ -16,7 +16,7 @@ use Rattle.auction.specs.declared.standing.Counts.{Counts}
 use Rattle.auction.specs.declared.standing.Standing.{Standing}
 use Rattle.auction.specs.Tally.{Tally}
 use Rattle.auction.specs.Calls.{tally_after}
-use Rattle.auction.specs.Laws.{Pairing, Done, pairing_of, worth}
+use Rattle.auction.specs.Laws.{Pairing, ServedOrOut, pairing_of, worth}
 use Rattle.pairing.specs.Listing.{listing, refused_line}
 
 -- Step 1 and lanes 8; depth 8 and budget 1,000,000.
@@ -92,7 +92,7 @@ Ends (Some t) r ss = (r ≡ Ok t.counts) × (ss ≡ t.standings)
 -- What is told of a tally is a pairing of the sheet; and if every carrier is served or out, no pairing of the sheet is worth more.
 pub record WellPaired (m : Meaning) (t : Tally) : Type 0 where
   pub own : Pairing m (pairing_of t)
-  pub best : AllByRecursion Done t.standings → (p : List (Option ℕ)) → Pairing m p → worth m p ≤ worth m (pairing_of t)
+  pub best : AllByRecursion ServedOrOut t.standings → (p : List (Option ℕ)) → Pairing m p → worth m p ≤ worth m (pairing_of t)
 
 -- That holds of the tally that the auction of a sheet ends with.
 abbrev pub PairsWell : Meaning → Type 0
