@@ -56,13 +56,6 @@ module _ (m : Meaning) (P : Tally → Type 0) (calls : (t : Tally) (i : ℕ) (ac
   call_holds o TotalWorth s h = h
   call_holds o AllCounts s h = h
 
-module _ (m : Meaning) where
-  pub once_keeps : (f : Tally → Tally) → ((t : Tally) → Invariant m t → Invariant m (f t)) → (o : Option Tally) → Holds (Invariant m) o → Holds (Invariant m) (once f o)
-  once_keeps f k o h = once_holds m (Invariant m) f k o h
-
-  pub start_keeps : (step lanes : ℕ) (o : Option Tally) → Holds (Invariant m) o → Holds (Invariant m) (start_tally step lanes m o)
-  start_keeps step lanes o h = start_holds m (Invariant m) step lanes (opened_invariant m step lanes) o h
-
 module _ (m : Meaning) (sound : Sound m) where
   calls_keep : (o : Option Tally) (calls : List Call) → Holds (Invariant m) o → Holds (Invariant m) (tally_from m o calls)
   unfolding tally_from

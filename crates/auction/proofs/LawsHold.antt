@@ -1,7 +1,7 @@
 -- The laws of the auction, from the invariant.
-use Rattle.std.proofs.Common.{◌≡◌, ℕ, zero, suc, ◌+◌, ◌*◌, ◌^◌, ◌<◌, ◌≤◌, Bool, true, false, cond, eqb, leb, List, [], ◌∷◌, map, length, get_or, pos, ◌-ℤ◌, ◌<ℤ◌, Some, None, sum_by, count_by, Option, sym, refl, ap, ◌∙◌, subst, ⊎_elim, mul-le-mul_left, arith}
+use Rattle.std.proofs.Common.{◌≡◌, ℕ, zero, suc, ◌+◌, ◌-◌, ◌*◌, ◌^◌, ◌<◌, ◌≤◌, Bool, true, false, cond, eqb, leb, List, [], ◌∷◌, map, length, get_or, pos, ◌-ℤ◌, ◌↔◌, ◌<ℤ◌, Some, None, sum_by, count_by, Option, sym, refl, ap, ◌∙◌, subst, ⊎_elim, mul-le-mul_left, arith}
 use lib.Signed.{lt_z}
-use borrow.Author.Differences.{up, down, lt-true, lt_out, below_in}
+use borrow.Author.Differences.{up, down, same_in, lt-true, lt_out, le_out, below_in}
 use Rattle.std.specs.List.{AllByRecursion}
 use Rattle.std.proofs.Math.Nat.{le-mul_of_pos_right}
 use Rattle.std.proofs.lemmas.Option.{none-some, same_Some}
@@ -18,16 +18,16 @@ use Rattle.auction.specs.declared.standing.Verdict.TheVariants.{Out as GoesOut, 
 use Rattle.auction.specs.declared.standing.Held.{Held}
 use Rattle.auction.specs.declared.standing.Standing.{Standing}
 use Rattle.auction.specs.declared.standing.Standing.TheVariants.{Waiting, Bidding, Served, Out}
-use Rattle.auction.specs.Tally.{Tally, price_at, holder_at, standing_at, is_served, worth_served}
-use Rattle.auction.specs.Bids.{natural, offer, judged_best}
+use Rattle.auction.specs.Tally.{Tally, price_at, holder_at, standing_at, is_served, is_bidding, worth_served}
+use Rattle.auction.specs.Bids.{offer, judged_best}
 use Rattle.auction.specs.Rules.{verdict_in}
 use Rattle.auction.specs.Consistent.{BestSound, BidSound, StandingSound}
-use Rattle.auction.specs.Laws.{Pairing, Slack, given_worth, worth_along, worth, job_served, ServedOrOut, pairing_of, served, Among, AuctionLaws}
+use Rattle.auction.specs.Laws.{Pairing, OpenBid, Slack, given_worth, worth_along, worth, job_served, ServedOrOut, pairing_of, served, Among, AuctionLaws}
 use Rattle.auction.proofs.Matching.{served_within, holder_of, holder_served}
 use Rattle.auction.proofs.Paid.{price_of, paid, paid_distinct, paid_covers}
 use Rattle.auction.proofs.Nets.{sides, net_is, natural-up}
 use Rattle.auction.proofs.Keeping.{few_awards}
-use Rattle.auction.proofs.Invariant.{StandingFits, Invariant}
+use Rattle.auction.proofs.Invariant.{BidFits, StandingFits, Invariant}
 
 -- ---- the pairing that the standings make
 
@@ -150,12 +150,18 @@ module _ (m : Meaning) (sound : Sound m) (t : Tally) (law : Invariant m t) where
   valued : worth m (pairing_of t) ≡ sum_by worth_served t.standings
   valued = valued_along t.step t.prices m.rows t.standings sized fits
 
+  held : (i j : ℕ) → (holder_at t j ≡ Some i) ↔ (get_or (pairing_of t) i None ≡ Some j)
+  held i j = (
+    λ e. let w = holder_served m.carriers m.jobs m.ceiling t law.consistent j i e in pairs t.standings i w.0 w.1 ∙ ap Some w.2,
+    λ e. let w = paired t.standings i j e in ap (holder_at t) (sym w.2) ∙ holder_of m.carriers m.jobs m.ceiling t law.consistent i w.0 w.1,
+  )
+
   cover : (j : ℕ) → 0 < price_at t j → (a : ℕ) × (get_or (pairing_of t) a None ≡ Some j)
   cover j l = go (holder_at t j) refl
     where
       go : (o : Option ℕ) → holder_at t j ≡ o → (a : ℕ) × (get_or (pairing_of t) a None ≡ Some j)
       go None e = let z = law.consistent.unheld j e in absurd (omega arith)
-      go (Some i) e = let w = holder_served m.carriers m.jobs m.ceiling t law.consistent j i e in (i, pairs t.standings i w.0 w.1 ∙ ap Some w.2)
+      go (Some i) e = (i, (held i j).0 e)
 
   rival : (p : List (Option ℕ)) → Pairing m p → Among t p → worth m p ≤ worth m (pairing_of t) + t.step * served t
   rival p pair among =
@@ -204,7 +210,7 @@ module _ (m : Meaning) (sound : Sound m) (t : Tally) (law : Invariant m t) where
   slack i h e =
       let l = among i (λ o. both_ways (is_served (standing_at t i)) (ap is_served o) (ap is_served e)) in
       let f = subst (StandingFits t.step t.prices (row_of m i)) e (law.fits i l) in
-      record { of_none = f.of_none; of_best = f.of_best }
+      record { worth_is = f.worth_is; of_none = f.of_none; of_best = f.of_best }
 
   left_out : (i j : ℕ) → i < m.carriers → standing_at t i ≡ Out → worth_of m i j ≤ price_at t j
   left_out i j l e = subst (StandingFits t.step t.prices (row_of m i)) e (law.fits i l) j
@@ -231,28 +237,37 @@ module _ (m : Meaning) (sound : Sound m) (t : Tally) (law : Invariant m t) where
           (λ _. stale_not _ refl))
           (λ _. stale_not _ refl)
 
-  bid_is : (i : ℕ) (b : Bid) (x : Best) (seen : ℕ) → standing_at t i ≡ Bidding b → b.best ≡ Some x → pos x.worth -ℤ pos seen ≡ x.net → pos 0 <ℤ x.net →
-      offer t.step b.runner_up x + b.runner_up ≡ seen + natural x.net + t.step
-  bid_is i b x seen e q n above =
-      let g = bid_sound i b x e q in let u = g.low_runner in
-      let p = lt_out (pos 0) x.net above in let z = sides x.net in let o = natural-up x.net in
-      let w : up x.net + seen ≡ x.worth + down x.net = subst (λ y. up y + seen ≡ x.worth + down y) n (net_is x.worth seen) in
-      omega (arith, p, u, z, o, w)
+  bid_is : (i : ℕ) (b : Bid) (x : Best) → standing_at t i ≡ Bidding b → b.best ≡ Some x → OpenBid m t i b x
+  bid_is i b x e q =
+      let l = among i (λ o. both_ways (is_bidding (standing_at t i)) (ap is_bidding o) (ap is_bidding e)) in
+      let f = subst (BidFits t.prices (row_of m i) b.looked b.runner_up) q (subst (StandingFits t.step t.prices (row_of m i)) e (law.fits i l)).1 in
+      let g = bid_sound i b x e q in
+      let low = le_out x.net (pos x.worth) g.low_net in let z = sides x.net in record {
+        seen = x.worth + down x.net - up x.net;
+        worth_is = f.worth_is;
+        net_is = same_in x.net (pos x.worth -ℤ pos (x.worth + down x.net - up x.net)) (let w = net_is x.worth (x.worth + down x.net - up x.net) in omega (arith, low, z, w));
+        risen = omega (arith, f.seen);
+        bid_is = λ above. let p = lt_out (pos 0) x.net above in let o = natural-up x.net in let u = g.low_runner in omega (arith, p, z, o, u, low);
+      }
 
   paid_is : (i : ℕ) (b : Bid) (x : Best) (a : Award) → standing_at t i ≡ Bidding b → b.best ≡ Some x → verdict_in t b ≡ Awarded a →
-      (pos 0 <ℤ x.net) × (a.price ≡ offer t.step b.runner_up x)
+      (pos 0 <ℤ x.net) × (a ≡ record { job = x.job; price = offer t.step b.runner_up x; displaced = holder_at t x.job })
   paid_is i b x a e q v =
-      cond_both {A = Verdict} (lt_z (pos 0) x.net) _ _ (λ w. w ≡ Awarded a → (pos 0 <ℤ x.net) × (a.price ≡ offer t.step b.runner_up x))
-      (λ above. cond_both {A = Verdict} (leb (offer t.step b.runner_up x) (price_at t x.job)) _ _ (λ w. w ≡ Awarded a → (pos 0 <ℤ x.net) × (a.price ≡ offer t.step b.runner_up x))
+      cond_both {A = Verdict} (lt_z (pos 0) x.net) _ _ (λ w. w ≡ Awarded a → Paid)
+      (λ above. cond_both {A = Verdict} (leb (offer t.step b.runner_up x) (price_at t x.job)) _ _ (λ w. w ≡ Awarded a → Paid)
       (λ _ c. absurd (false≢true cc))
       (λ _ c. (below_in (pos 0) x.net (lt-true (pos 0) x.net above), sym cc)))
       (λ _ c. absurd (false≢true cc))
       (sym (ap (judged_best t.step t.prices t.holders b.runner_up) q) ∙ v)
+    where
+      Paid : Type 0
+      Paid = (pos 0 <ℤ x.net) × (a ≡ record { job = x.job; price = offer t.step b.runner_up x; displaced = holder_at t x.job })
 
   pub lawful_laws : AuctionLaws m t
   lawful_laws = record {
     own = own;
     valued = valued;
+    held = held;
     rival = rival;
     exact = exact;
     slack = slack;

@@ -1,5 +1,5 @@
 -- The laws of the auction, over pairings of carriers with jobs.
-use Rattle.std.specs.Prelude.{◌≡◌, ℕ, ◌+◌, ◌-◌, ◌*◌, ◌<◌, ◌≤◌, List, [], ◌∷◌, map, length, pos, ◌-ℤ◌, ◌<ℤ◌, Some, None, count_by, Option, ◌≢◌, slice_index_or}
+use Rattle.std.specs.Prelude.{◌≡◌, ℕ, ◌+◌, ◌-◌, ◌*◌, ◌<◌, ◌≤◌, List, [], ◌∷◌, map, length, pos, ◌-ℤ◌, ◌<ℤ◌, Some, None, count_by, Option, ◌≢◌, slice_index_or, ◌↔◌}
 use Rattle.sources.specs.Meaning.{Meaning, worth_in, worth_of}
 use Rattle.sources.specs.Layers.{times_of}
 use Rattle.auction.specs.declared.standing.Award.{Award}
@@ -58,15 +58,26 @@ bidding t = count_by is_bidding t.standings
 abbrev pub Among : Tally → List (Option ℕ) → Type 0
 Among t p = (i j : ℕ) → slice_index_or p i None ≡ Some j → ServedOrOut (standing_at t i)
 
--- A served carrier is within one step of its best net at the prices now, and of 0.
+-- A served carrier is told what its job is worth to it, and is within one step of its best net at the prices now, and of 0.
 pub record Slack (m : Meaning) (t : Tally) (i : ℕ) (h : Held) : Type 0 where
+  pub worth_is : h.worth ≡ worth_of m i h.job
   pub of_none : price_at t h.job ≤ h.worth + t.step
   pub of_best : (j : ℕ) → worth_of m i j + price_at t h.job ≤ h.worth + t.step + price_at t j
+
+-- Of carrier i's open bid b with the best x: its worth is the source's, and its net that worth minus the price seen, which has not fallen since. What is bid for it is the price seen plus the net, minus the runner-up, plus the step.
+pub record OpenBid (m : Meaning) (t : Tally) (i : ℕ) (b : Bid) (x : Best) : Type 0 where
+  pub seen : ℕ
+  pub worth_is : x.worth ≡ worth_of m i x.job
+  pub net_is : x.net ≡ pos x.worth -ℤ pos seen
+  pub risen : seen ≤ price_at t x.job
+  pub bid_is : pos 0 <ℤ x.net → offer t.step b.runner_up x + b.runner_up ≡ seen + natural x.net + t.step
 
 pub record AuctionLaws (m : Meaning) (t : Tally) : Type 0 where
   -- What the hall gives is a pairing, and the total worth that it tells is that pairing's.
   pub own : Pairing m (pairing_of t)
   pub valued : worth m (pairing_of t) ≡ total_worth t
+  -- The holder that is told of a job is the carrier that has it in that pairing.
+  pub held : (i j : ℕ) → (holder_at t j ≡ Some i) ↔ (slice_index_or (pairing_of t) i None ≡ Some j)
   -- No other pairing of the carriers then served or out is worth more than the hall's and a step for each served carrier.
   pub rival : (p : List (Option ℕ)) → Pairing m p → Among t p → worth m p ≤ worth m (pairing_of t) + t.step * served t
   -- Where the source is a times layer with a factor above carriers × step, none is worth more than the hall's, counted below that layer.
@@ -80,11 +91,10 @@ pub record AuctionLaws (m : Meaning) (t : Tally) : Type 0 where
   -- A bid is not stale if its best job costs what it cost when it was looked at.
   pub unmoved : (i : ℕ) (b : Bid) (x : Best) → standing_at t i ≡ Bidding b → b.best ≡ Some x → pos x.worth -ℤ pos (price_at t x.job) ≡ x.net → verdict_in t b ≢ Stale
   -- A bid is the price seen plus the best net, minus the runner-up, plus the step.
-  pub bid_is : (i : ℕ) (b : Bid) (x : Best) (seen : ℕ) → standing_at t i ≡ Bidding b → b.best ≡ Some x → pos x.worth -ℤ pos seen ≡ x.net → pos 0 <ℤ x.net →
-      offer t.step b.runner_up x + b.runner_up ≡ seen + natural x.net + t.step
-  -- Only for a best net above 0 is a job awarded, and it then costs what was bid.
+  pub bid_is : (i : ℕ) (b : Bid) (x : Best) → standing_at t i ≡ Bidding b → b.best ≡ Some x → OpenBid m t i b x
+  -- Only for a best net above 0 is a job awarded, and it then costs what was bid; its former holder is displaced.
   pub paid_is : (i : ℕ) (b : Bid) (x : Best) (a : Award) → standing_at t i ≡ Bidding b → b.best ≡ Some x → verdict_in t b ≡ Awarded a →
-      (pos 0 <ℤ x.net) × (a.price ≡ offer t.step b.runner_up x)
+      (pos 0 <ℤ x.net) × (a ≡ record { job = x.job; price = offer t.step b.runner_up x; displaced = holder_at t x.job })
   -- Every summons ended in an award, a stale bid or an out, or is an open bid.
   pub balance : t.counts.summonses ≡ t.counts.awards + t.counts.stales + t.counts.outs + bidding t
   pub few_awards : t.counts.awards ≤ m.jobs * (m.ceiling + t.step)
