@@ -14,7 +14,7 @@ use Rattle.sheetfile.specs.Reading.{loaded}
 use Rattle.sheetfile.specs.Writing.{rewrite_answer}
 use Rattle.sheetfile.specs.Steps.{updated, without_value}
 use Rattle.sheetfile.proofs.Sheets.{entries_push}
-use Rattle.inspection.specs.Inspected.{inspected}
+use Rattle.sheetfile.specs.Reading.{loaded_within}
 use Rattle.inspection.specs.Listing.{row_line, row_lines}
 
 -- pieces of a text, one behind the other
@@ -62,12 +62,12 @@ loaded-told P (Err e) old now ok is p = absurd (false≢true ok)
 loaded-told P (Ok m) old now ok is p = subst (λ x. P (Ok x)) is p
 
 -- a file of at most 32,768 bytes is loaded
-pub short_enough : (bs : List ℕ) → length bs ≤ 32768 → inspected bs ≡ loaded bs 129 4096
+pub short_enough : (bs : List ℕ) → length bs ≤ 32768 → loaded_within bs ≡ loaded bs 129 4096
 short_enough bs l = cond-false (ltb 32768 (length bs)) _ _ (le-ltb 32768 (length bs) l)
 
 -- why it is refused, where it is written again into as many bytes, or loaded
-pub rewrite-refused : (bs : List ℕ) (starts room out : ℕ) (f : Fault) → length bs ≤ 32768 → starts ≡ 129 → room ≡ 4096 → out ≡ length bs → rewrite_answer bs starts room out ≡ Err f → inspected bs ≡ Err f
+pub rewrite-refused : (bs : List ℕ) (starts room out : ℕ) (f : Fault) → length bs ≤ 32768 → starts ≡ 129 → room ≡ 4096 → out ≡ length bs → rewrite_answer bs starts room out ≡ Err f → loaded_within bs ≡ Err f
 rewrite-refused bs starts room out f l s e o is = grind (arith, short_enough bs l)
 
-pub load-refused : (bs : List ℕ) (starts room : ℕ) (f : Fault) → length bs ≤ 32768 → starts ≡ 129 → room ≡ 4096 → without_value (loaded bs starts room) ≡ Err f → inspected bs ≡ Err f
+pub load-refused : (bs : List ℕ) (starts room : ℕ) (f : Fault) → length bs ≤ 32768 → starts ≡ 129 → room ≡ 4096 → without_value (loaded bs starts room) ≡ Err f → loaded_within bs ≡ Err f
 load-refused bs starts room f l s e is = grind (arith, short_enough bs l)

@@ -3,18 +3,12 @@ use Rattle.std.specs.Prelude.{◌≡◌, ℕ, List, Some, None, Ok, Err, IsOkAnd
 use Rattle.std.specs.declared.alloc.Global.{Global}
 use Rattle.refusals.specs.declared.Fault.{Fault}
 use Rattle.sources.specs.Meaning.{Meaning}
-use Rattle.sheetfile.specs.Reading.{loaded_within}
 use Rattle.texts.specs.declared.Failure.{Failure}
 use Rattle.texts.specs.declared.Failure.TheVariants.{Memory, Refused}
 use Rattle.texts.specs.declared.Printed.{Printed}
 use Rattle.inspection.specs.Listing.{refused_line, sheet_text}
 
--- What a file comes to: one of at most 32,768 bytes is loaded, for 128 carriers and 4,096 entries; of a longer one no
--- byte is read.
-abbrev pub inspected : List ℕ → Result Meaning Fault
-inspected = loaded_within
-
--- What is printed tells this of so many bytes: its text, and the fault.
+-- What is printed tells what so many bytes come to: its text, and the fault.
 abbrev pub Tells : Printed Fault → ℕ → Result Meaning Fault → Type 0
 Tells p size (Ok m) = (string_bytes p.text ≡ sheet_text m size) × (p.refused ≡ None)
 Tells p size (Err f) = (string_bytes p.text ≡ refused_line f) × (p.refused ≡ Some f)

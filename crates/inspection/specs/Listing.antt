@@ -4,11 +4,8 @@ use Rattle.std.specs.List.{flat_map}
 use Rattle.refusals.specs.declared.Fault.{Fault}
 use Rattle.refusals.specs.Faults.{fault_text}
 use Rattle.sources.specs.Meaning.{Meaning}
+use Rattle.texts.specs.Telling.{newline}
 use Rattle.sheetfile.specs.Layout.{Row, entries_in}
-
--- Byte 10 ends each line.
-abbrev pub newline : List ℕ
-newline = 10 ∷ []
 
 -- The first line, as `carriers 3 jobs 3 ceiling 14`.
 abbrev pub heading_line : Meaning → List ℕ

@@ -2,7 +2,8 @@
 #![tactic(auto)]
 
 ghost use Rattle.std.specs.Prelude.{◌≡◌, ◌++◌, length, IfOk, OnOk, string_bytes};
-ghost use Rattle.inspection.specs.Inspected.{Lists, Tells, inspected};
+ghost use Rattle.inspection.specs.Inspected.{Lists, Tells};
+ghost use Rattle.sheetfile.specs.Reading.{loaded_within};
 ghost use Rattle.inspection.specs.Listing.{row_line, sheet_text};
 ghost use Rattle.sources.specs.Meaning.{row_of};
 ghost use Rattle.sources.specs.OfSheet.{sheet_meaning};
@@ -23,14 +24,14 @@ pub use sheetfile::whole::{MOST_BYTES, MOST_ENTRIES};
 // Loads some bytes as a sheet file, writes it again, and lists what it holds. More than 32,768 bytes are refused before
 // any is read. It fails only for want of memory.
 pub fn inspect_sheet(heap: Global, bytes: &[u8]) -> Result<Printed<Fault>, AllocError>
-    ensures { IfOk result (λ p. Tells p (length bytes.now) (inspected bytes.now)) }
+    ensures { IfOk result (λ p. Tells p (length bytes.now) (loaded_within bytes.now)) }
 {
     Printed::telling(heap, "refused ", listed(heap, bytes))
 }
 
 // The lines of a sheet file, which is loaded and written again before it is listed.
 fn listed(heap: Global, bytes: &[u8]) -> Result<String, Failure<Fault>>
-    ensures { Lists (length bytes.now) (inspected bytes.now) result }
+    ensures { Lists (length bytes.now) (loaded_within bytes.now) result }
 {
     if bytes.len() > MOST_BYTES {
         return Err(Failure::Refused(Fault::bare(Refusal::TooShort)));

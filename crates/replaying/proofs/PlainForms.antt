@@ -18,7 +18,7 @@ use Rattle.replaying.specs.Numerals.{number_in}
 use Rattle.replaying.specs.Parts.{lines_of, parts_of, words_of}
 use Rattle.replaying.specs.ReadBack.{ReadsBack, Sized, plain_line, plain_log}
 use Rattle.auction.specs.Shown.{call_text}
-use Rattle.replaying.specs.Shown.{newline}
+use Rattle.texts.specs.Telling.{newline}
 use Rattle.replaying.proofs.LinesLeft.{asked_all, asked_more}
 use Rattle.replaying.proofs.Values.{own, some_value}
 

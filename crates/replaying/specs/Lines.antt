@@ -1,5 +1,5 @@
 -- What a line of a log says; none if it is not understood.
-use Rattle.std.specs.Prelude.{ℕ, ◌^◌, Bool, cond, List, [], ◌∷◌, Some, None, codes, Option, ◌==◌, nat_lt, slice_index}
+use Rattle.std.specs.Prelude.{ℕ, ◌^◌, Bool, cond, List, [], ◌∷◌, Some, None, length, codes, Option, ◌==◌, nat_lt, slice_get, slice_index}
 use Rattle.std.specs.Option.{option_and_then}
 use Rattle.std.specs.Str.{bytes_eq}
 use Rattle.auction.specs.declared.call.Call.TheVariants.{Start, Summon, Look, Settle, Run, PriceOf, HolderOf, StandingOf, TotalWorth, AllCounts}
@@ -41,7 +41,7 @@ said_of_two word a b =
     cond (bytes_eq word (codes "run")) (Some (Make (Run a b)))
     None)
 
--- A word, and up to two numbers behind it; more words are not understood.
+-- A word, the words behind it, as far as there are any, and whether there are more than two: those are not understood.
 abbrev pub said_with : List ℕ → Option (List ℕ) → Option (List ℕ) → Bool → Option Said
 said_with w None second more = said_alone w
 said_with w (Some a) None more = option_and_then (said_of_one w) (number_in a)
@@ -49,10 +49,7 @@ said_with w (Some a) (Some b) more = cond more None (option_and_then (λ m. opti
 
 abbrev pub said_by_words : List (List ℕ) → Option Said
 said_by_words [] = None
-said_by_words (w ∷ []) = said_alone w
-said_by_words (w ∷ (a ∷ [])) = option_and_then (said_of_one w) (number_in a)
-said_by_words (w ∷ (a ∷ (b ∷ []))) = option_and_then (λ m. option_and_then (said_of_two w m) (number_in b)) (number_in a)
-said_by_words (w ∷ (a ∷ (b ∷ (c ∷ ws)))) = None
+said_by_words (w ∷ ws) = said_with w (slice_get ws 0) (slice_get ws 1) (nat_lt 2 (length ws))
 
 -- A line that begins with byte 35, `#`, is a comment.
 unfoldable pub said_by : List ℕ → Option Said

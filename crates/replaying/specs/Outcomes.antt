@@ -12,7 +12,8 @@ use Rattle.texts.specs.declared.Printed.{Printed}
 use Rattle.replaying.specs.declared.log.Trouble.{Trouble}
 use Rattle.replaying.specs.declared.log.Trouble.TheVariants.{Calls, Line, Sheet}
 use Rattle.replaying.specs.Logs.{Asked, layered}
-use Rattle.replaying.specs.Shown.{answer_lines, newline}
+use Rattle.replaying.specs.Shown.{answer_lines}
+use Rattle.texts.specs.Telling.{newline}
 
 -- As `line 3 is not understood`.
 abbrev pub trouble_text : Trouble → List ℕ
@@ -24,17 +25,16 @@ trouble_text (Sheet f) = codes "refused " ++ fault_text f
 abbrev pub TellsTrouble : Printed Trouble → Trouble → Type 0
 TellsTrouble p t = (string_bytes p.text ≡ trouble_text t ++ newline) × (p.refused ≡ Some t)
 
--- What is printed tells this of what a log asks for and what a sheet file comes to. The log's trouble comes before the sheet's.
-abbrev pub Tells : Printed Trouble → Result Asked Trouble → Result Meaning Fault → Type 0
-Tells p (Err t) sheet = TellsTrouble p t
-Tells p (Ok a) (Err f) = TellsTrouble p (Sheet f)
-Tells p (Ok a) (Ok m) = (string_bytes p.text ≡ answer_lines a.calls (answers_from (layered a m) None a.calls)) × (p.refused ≡ None)
-
--- The text of a replay, or why there is none.
+-- The text of a replay, or why there is none, from what a log asks for and what a sheet file comes to. The log's trouble comes before the sheet's.
 abbrev pub replayed : Result Asked Trouble → Result Meaning Fault → Result (List ℕ) Trouble
 replayed (Err t) sheet = Err t
 replayed (Ok a) (Err f) = Err (Sheet f)
 replayed (Ok a) (Ok m) = Ok (answer_lines a.calls (answers_from (layered a m) None a.calls))
+
+-- What is printed tells this text, or why there is none.
+abbrev pub Tells : Printed Trouble → Result (List ℕ) Trouble → Type 0
+Tells p (Ok text) = (string_bytes p.text ≡ text) × (p.refused ≡ None)
+Tells p (Err t) = TellsTrouble p t
 
 -- What comes of a replay. Nothing is said where memory ran out.
 abbrev pub Replays : Result (List ℕ) Trouble → Result (String Global) (Failure Trouble) → Type 0

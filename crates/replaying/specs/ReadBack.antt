@@ -7,7 +7,7 @@ use Rattle.replaying.specs.declared.line.Said.TheVariants.{Make}
 use Rattle.replaying.specs.Lines.{said_by}
 use Rattle.replaying.specs.Logs.{asked_in, no_layers}
 use Rattle.auction.specs.Shown.{call_text}
-use Rattle.replaying.specs.Shown.{newline}
+use Rattle.texts.specs.Telling.{newline}
 
 -- The numbers of a call have 64 bits, as those of every call in the code.
 abbrev pub Sized : Call → Type 0

@@ -3,13 +3,10 @@ use Rattle.std.specs.Prelude.{ℕ, List, [], ◌∷◌, ◌++◌, Ok, Err, codes
 use Rattle.std.specs.List.{flat_map, zip}
 use Rattle.refusals.specs.declared.Refusal.{Refusal}
 use Rattle.refusals.specs.Reasons.{refusal_text}
+use Rattle.texts.specs.Telling.{newline}
 use Rattle.auction.specs.Shown.{answer_text, call_text}
 use Rattle.auction.specs.declared.call.Call.{Call}
 use Rattle.auction.specs.declared.call.Answer.{Answer}
-
--- Byte 10 ends each line.
-abbrev pub newline : List ℕ
-newline = 10 ∷ []
 
 -- A call's answer, or the refusal.
 abbrev pub told_text : Result Answer Refusal → List ℕ

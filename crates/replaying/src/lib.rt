@@ -26,7 +26,7 @@ mod running;
 // memory.
 #[tactic(auto, using(crate::proofs::PlainForms::reads_back))]
 pub fn replay_log(heap: Global, sheet: &[u8], text: &[u8]) -> Result<Printed<Trouble>, AllocError>
-    ensures outcome { IfOk result (λ p. Tells p (asked_in text.now) (loaded_within sheet.now)) }
+    ensures outcome { IfOk result (λ p. Tells p (replayed (asked_in text.now) (loaded_within sheet.now))) }
     ensures read_back { ReadsBack }
 {
     Printed::telling(heap, "", replayed(heap, sheet, text))

@@ -2,7 +2,7 @@
 #![tactic(auto)]
 
 ghost use Rattle.std.specs.Prelude.{◌≡◌, [], ◌∷◌, ◌++◌, IfSome, IfOk, Some, string_bytes};
-ghost use Rattle.texts.specs.Telling.{Telling};
+ghost use Rattle.texts.specs.Telling.{Telling, newline};
 ghost use Rattle.texts.specs.declared.Failure.TheVariants.{Memory};
 
 use std::alloc::{AllocError, AllocFailed, Global};
@@ -47,7 +47,7 @@ impl<E: Drop> Printed<E> {
         shown: D,
         refused: E,
     ) -> Result<Self, AllocError>
-        ensures line { IfOk result (λ p. IfSome (D.output shown) (λ bs. string_bytes p.text ≡ bs ++ (10 ∷ []))) }
+        ensures line { IfOk result (λ p. IfSome (D.output shown) (λ bs. string_bytes p.text ≡ bs ++ newline)) }
         ensures refused { IfOk result (λ p. p.refused ≡ Some refused) }
     {
         let mut text = String::new(heap);

@@ -6,13 +6,14 @@ use Rattle.auction.specs.Bids.{weighed}
 use Rattle.auction.specs.Rules.{opened, bid_at}
 use Rattle.auction.specs.Runs.{beginning, one_step, many_steps, ran}
 use Rattle.auction.specs.Calls.{answer_to, tally_by}
-use Rattle.worked.specs.Runs.{Plays, StaleBid, WideRival, empty_row, net_above, net_below, net_zero, no_entries, one_by_one, one_job, smaller_job, table, three_in_flight, two_alike, wide, wide_rival, wide_step}
+use Rattle.worked.specs.Sheets.{three_by_three}
+use Rattle.worked.specs.Runs.{Plays, StaleBid, WideRival, empty_row, net_above, net_below, net_zero, no_entries, one_by_one, one_job, smaller_job, three_in_flight, two_alike, wide, wide_rival, wide_step}
 
-pub one_by_one_played : Plays table one_by_one
+pub one_by_one_played : Plays three_by_three one_by_one
 unfolding weighed opened bid_at beginning one_step many_steps ran answer_to tally_by
 one_by_one_played = refl
 
-pub three_in_flight_played : Plays table three_in_flight
+pub three_in_flight_played : Plays three_by_three three_in_flight
 unfolding weighed opened bid_at beginning one_step many_steps ran answer_to tally_by
 three_in_flight_played = refl
 

@@ -37,15 +37,7 @@ ran_for steps summonses awards stales outs ending =
 abbrev pub bid_with : ℕ → ℤ → ℕ → ℕ → ℕ → Bid
 bid_with looked net job worth runner-up = record { looked = looked; best = Some (record { net = net; job = job; worth = worth }); runner_up = runner-up }
 
--- ---- rows 5 10 1, 4 11 3 and 5 14 8; step 1, lanes 4
-
-abbrev pub table : Meaning
-table = record {
-  carriers = 3;
-  jobs = 3;
-  ceiling = 14;
-  rows = ((0, 5) ∷ (1, 10) ∷ (2, 1) ∷ []) ∷ ((0, 4) ∷ (1, 11) ∷ (2, 3) ∷ []) ∷ ((0, 5) ∷ (1, 14) ∷ (2, 8) ∷ []) ∷ [];
-}
+-- ---- rows 5 10 1, 4 11 3 and 5 14 8, which is three_by_three; step 1, lanes 4
 
 -- Depth 1. After 3 steps carrier 0 has job 1 at 6; after 6 carrier 1 has it at 8; after 9 carrier 2 has job 2 at 3; after 12, the last, carrier 0 has job 0 at 4.
 abbrev pub one_by_one : Exchange

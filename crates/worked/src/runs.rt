@@ -2,7 +2,8 @@
 ghost use Rattle.std.specs.Prelude.{◌≡◌, ◌≤◌, None, Ok};
 ghost use Rattle.sources.specs.Sheets.{fill_verdict, sheet_of};
 ghost use Rattle.auction.specs.Calls.{answers_from};
-ghost use Rattle.worked.specs.Runs.{Plays, StaleBid, WideRival, answers_in, calls_in, empty_row, net_above, net_below, net_zero, no_entries, one_by_one, one_job, smaller_job, table, three_in_flight, two_alike, wide, wide_step};
+ghost use Rattle.worked.specs.Sheets.{three_by_three};
+ghost use Rattle.worked.specs.Runs.{Plays, StaleBid, WideRival, answers_in, calls_in, empty_row, net_above, net_below, net_zero, no_entries, one_by_one, one_job, smaller_job, three_in_flight, two_alike, wide, wide_step};
 
 use auction::call::{Answer, Call};
 use hall::replay::replay;
@@ -29,7 +30,7 @@ fn play<const N: usize>(
 
 // Rows 5 10 1, 4 11 3 and 5 14 8. Written out: no library crate is for examples.
 fn play_table<const N: usize>(calls: [Call; N]) -> [Result<Answer, Refusal>; N]
-    ensures { result ≡ answers_from table None calls.entry }
+    ensures { result ≡ answers_from three_by_three None calls.entry }
 {
     let heading = Heading {
         carriers: 3,
@@ -54,7 +55,7 @@ fn play_table<const N: usize>(calls: [Call; N]) -> [Result<Answer, Refusal>; N]
 #[tactic(auto, using(crate::proofs::Played::one_by_one_played))]
 pub fn one_by_one() -> [Result<Answer, Refusal>; 19]
     ensures value { result ≡ answers_in one_by_one }
-    ensures worked { Plays table one_by_one }
+    ensures worked { Plays three_by_three one_by_one }
 {
     let start = Call::Start { step: 1, lanes: 4 };
     let calls = [
@@ -97,7 +98,7 @@ pub fn one_by_one() -> [Result<Answer, Refusal>; 19]
 #[tactic(auto, using(crate::proofs::Played::three_in_flight_played, crate::proofs::Played::stale_bid))]
 pub fn three_in_flight() -> [Result<Answer, Refusal>; 16]
     ensures value { result ≡ answers_in three_in_flight }
-    ensures worked { Plays table three_in_flight }
+    ensures worked { Plays three_by_three three_in_flight }
     ensures bid { StaleBid }
 {
     let start = Call::Start { step: 1, lanes: 4 };

@@ -5,7 +5,8 @@ use Rattle.std.proofs.lemmas.Result.{on_ok_weaker}
 use Rattle.std.specs.List.{flat_map}
 use Rattle.sources.specs.Meaning.{row_of}
 use Rattle.sources.specs.declared.asking.RowEntries.{RowEntries}
-use Rattle.inspection.specs.Listing.{entry_text, newline}
+use Rattle.inspection.specs.Listing.{entry_text}
+use Rattle.texts.specs.Telling.{newline}
 use Rattle.inspection.proofs.append_row.Goals as goal
 
 pub returns : goal.returns
