@@ -1,10 +1,9 @@
 -- What a load accepts, and a file that is written again.
-use Rattle.std.proofs.Common.{◌≡◌, ℕ, ◌+◌, Bool, true, false, cond, leb, List, length, get_or, take, drop, Ok, Err, Result, sym, refl, ap, ◌∙◌, subst, arith, w8, Fits}
+use Rattle.std.proofs.Common.{◌≡◌, ℕ, ◌+◌, ◌≤◌, List, length, get_or, take, drop, Ok, Err, Result, sym, refl, ap, ◌∙◌, subst, arith, w8, Fits}
 use Rattle.std.proofs.lemmas.List.{take_at}
 use Rattle.std.proofs.lemmas.Bool.{cond-true}
 use Rattle.refusals.specs.Faults.{fault_of}
 use Rattle.refusals.specs.declared.Fault.{Fault}
-use Rattle.refusals.specs.declared.Refusal.{Refusal}
 use Rattle.refusals.specs.declared.Refusal.TheVariants.{CountsOutside, TooShort}
 use Rattle.sources.proofs.Tables.{fills, length_ends, means}
 use Rattle.sources.specs.Meaning.{Meaning}
@@ -18,20 +17,12 @@ use Rattle.sheetfile.specs.Reading.{loaded}
 use Rattle.sheetfile.specs.Steps.{and_then, room_for, updated}
 use Rattle.numbers.specs.Writing.{over}
 use Rattle.sheetfile.specs.Tables.{entries_after, heading_answer, starts_after}
-use Rattle.sheetfile.specs.Writing.{rewrite_answer, tables_answer, write_answer, written}
+use Rattle.sheetfile.specs.Writing.{rewrite_answer, write_answer, written}
 use Rattle.sheetfile.proofs.Again.{no_zeros_in}
 use Rattle.sheetfile.proofs.Bounds.{bounded}
 use Rattle.sheetfile.proofs.Exact.{file_back, file_read}
+use Rattle.sheetfile.proofs.Steps.{ok_same, room_there}
 use Rattle.sheetfile.proofs.Tables.{heading_err, heading_ok, updated_err}
-
--- the same test, with a refusal and with a fault
-placed_ok : (b : Bool) (n k : ℕ) (e : Refusal) → ◌≡◌ {A = Result ℕ Refusal} (Ok n) (cond b (Ok k) (Err e)) → ◌≡◌ {A = Result ℕ Fault} (Ok n) (cond b (Ok k) (Err (fault_of e)))
-placed_ok true n k e is = let same : n ≡ k = cc in ap Ok same
-placed_ok false n k e is = absurd (let z : ◌≡◌ {A = ℕ} 0 1 = cc in omega arith)
-
-placed_err : (b : Bool) (d : Refusal) (k : ℕ) (e : Refusal) → ◌≡◌ {A = Result ℕ Refusal} (Err d) (cond b (Ok k) (Err e)) → ◌≡◌ {A = Result ℕ Fault} (Err (fault_of d)) (cond b (Ok k) (Err (fault_of e)))
-placed_err true d k e is = absurd (let z : ◌≡◌ {A = ℕ} 0 1 = cc in omega arith)
-placed_err false d k e is = let same : d ≡ e = cc in ap (λ x. Err (fault_of x)) same
 
 -- what is known of a file that was loaded
 module _ (bs starts : List ℕ) (entries : List Entry) (typed : (i : ℕ) → Fits w8 (get_or bs i 0)) (starts' : List ℕ) (entries' : List Entry)
@@ -65,16 +56,6 @@ module _ (bs starts : List ℕ) (entries : List Entry) (typed : (i : ℕ) → Fi
     same_bytes : written m ≡ bs
     same_bytes = ap (λ rows. file_of (meaning_of (heading_of m) rows)) (no_zeros_in (heading_of m) m.rows (bounded m file.bounded).good) ∙ sym file.bytes_are
 
-    written_again : written (sheet_of (heading_of m) (take (m.carriers + 1) starts') entries') ≡ bs
-    written_again = ap written fills_sheet.1 ∙ same_bytes
-
-    tables_again : (room : ℕ) → tables_answer (heading_of m) (take (m.carriers + 1) starts') entries' room ≡ room_for TooShort (length bs) room (length bs)
-    tables_again room =
-        ap (λ q. and_then q (λ _. write_answer (sheet_of (heading_of m) (take (m.carriers + 1) starts') entries') room)) fills_sheet.0
-        ∙ ap (λ x. write_answer x room) fills_sheet.1
-        ∙ cond-true (within_limits (heading_of m)) (room_for TooShort (length (written m)) room (length (written m))) (Err CountsOutside) file.bounded.limited
-        ∙ ap (λ b. room_for TooShort (length b) room (length b)) same_bytes
-
   -- a file that was loaded, by the heading that was answered
   module _ (h : Heading) (told : Ok h ≡ heading_answer (loaded bs (length starts) (length entries))) where
     pub whole : (m : Meaning) × (loaded bs (length starts) (length entries) ≡ Ok m) × (h ≡ heading_of m)
@@ -83,21 +64,27 @@ module _ (bs starts : List ℕ) (entries : List Entry) (typed : (i : ℕ) → Fi
     pub means_whole : sheet_of h (take (h.carriers + 1) starts') entries' ≡ whole.0
     means_whole = subst (λ (x : Heading). sheet_of x (take (x.carriers + 1) starts') entries' ≡ whole.0) (sym whole.2) (fills_sheet whole.0 whole.1).1
 
-    pub same_out : written (sheet_of h (take (h.carriers + 1) starts') entries') ≡ bs
-    same_out = subst (λ (x : Heading). written (sheet_of x (take (x.carriers + 1) starts') entries') ≡ bs) (sym whole.2) (written_again whole.0 whole.1)
+    -- what a sheet filled from the tables is written as
+    module _ (m : Meaning) (means : m ≡ sheet_of h (take (h.carriers + 1) starts') entries') where
+      is_whole : m ≡ whole.0
+      is_whole = means ∙ means_whole
 
-    module _ (room : ℕ) where
-      answered : tables_answer h (take (h.carriers + 1) starts') entries' room ≡ room_for TooShort (length bs) room (length bs)
-      answered = subst (λ (x : Heading). tables_answer x (take (x.carriers + 1) starts') entries' room ≡ room_for TooShort (length bs) room (length bs)) (sym whole.2) (tables_again whole.0 whole.1 room)
+      pub same_out : written m ≡ bs
+      same_out = ap written is_whole ∙ same_bytes whole.0 whole.1
 
-      rewritten : rewrite_answer bs (length starts) (length entries) room ≡ room_for (fault_of TooShort) (length bs) room (length bs)
-      rewritten = ap (λ q. and_then q (λ _. room_for (fault_of TooShort) (length bs) room (length bs))) whole.1
+      module _ (room : ℕ) (fits : length bs ≤ room) where
+        pub written_again : write_answer m room ≡ Ok (length bs)
+        written_again =
+            ap (λ x. write_answer x room) is_whole
+            ∙ cond-true (within_limits (heading_of whole.0)) (room_for TooShort (length (written whole.0)) room (length (written whole.0))) (Err CountsOutside) (file whole.0 whole.1).bounded.limited
+            ∙ ap (λ b. room_for TooShort (length b) room (length b)) (same_bytes whole.0 whole.1)
+            ∙ room_there TooShort (length bs) room (length bs) fits
 
-      pub rewrite_ok : (n : ℕ) → Ok n ≡ tables_answer h (take (h.carriers + 1) starts') entries' room → Ok n ≡ rewrite_answer bs (length starts) (length entries) room
-      rewrite_ok n is = placed_ok (leb (length bs) room) n (length bs) TooShort (is ∙ answered) ∙ sym rewritten
-
-      pub rewrite_err : (e : Refusal) → Err e ≡ tables_answer h (take (h.carriers + 1) starts') entries' room → Err (fault_of e) ≡ rewrite_answer bs (length starts) (length entries) room
-      rewrite_err e is = placed_err (leb (length bs) room) e (length bs) TooShort (is ∙ answered) ∙ sym rewritten
+        pub rewrite_ok : (n : ℕ) → Ok n ≡ write_answer m room → Ok n ≡ rewrite_answer bs (length starts) (length entries) room
+        rewrite_ok n is =
+            ap (λ k. Ok k) (ok_same n (length bs) (is ∙ written_again))
+            ∙ sym (room_there (fault_of TooShort) (length bs) room (length bs) fits)
+            ∙ sym (ap (λ q. and_then q (λ _. room_for (fault_of TooShort) (length bs) room (length bs))) whole.1)
 
   module _ (r : Result Heading Fault) (told : r ≡ heading_answer (loaded bs (length starts) (length entries))) where
     only : (h : Heading) → r ≡ Ok h → (m : Meaning) × SheetFile bs m × LongEnough m (length starts) (length entries) × (h ≡ heading_of m)

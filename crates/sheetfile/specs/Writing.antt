@@ -5,10 +5,8 @@ use Rattle.refusals.specs.declared.Fault.{Fault}
 use Rattle.refusals.specs.declared.Refusal.{Refusal}
 use Rattle.refusals.specs.declared.Refusal.TheVariants.{CountsOutside, TooShort}
 use Rattle.sources.specs.Meaning.{Meaning}
-use Rattle.sources.specs.Sheets.{fill_verdict, sheet_of, within_limits}
+use Rattle.sources.specs.Sheets.{within_limits}
 use Rattle.sources.specs.Tables.{heading_of}
-use Rattle.sources.specs.declared.form.Entry.{Entry}
-use Rattle.sources.specs.declared.form.Heading.{Heading}
 use Rattle.sheetfile.specs.Layout.{Row, entry_bytes, file_of}
 use Rattle.sheetfile.specs.Reading.{loaded}
 use Rattle.sheetfile.specs.Steps.{and_then, room_for, updated}
@@ -34,10 +32,6 @@ write_answer m room = cond (within_limits (heading_of m)) (room_for TooShort (le
 -- The bytes that a step makes of out: they begin with the file, and are as they were behind it.
 abbrev pub out_after : {E : Type 0} → Result ℕ E → List ℕ → List ℕ → List ℕ
 out_after r out file = updated r out (λ _. over out 0 file)
-
--- What writing the sheet of a heading and two tables answers.
-abbrev pub tables_answer : Heading → List ℕ → List Entry → ℕ → Result ℕ Refusal
-tables_answer h starts entries room = and_then (fill_verdict h starts entries) (λ _. write_answer (sheet_of h starts entries) room)
 
 -- What loading a file and writing it again answers: the file is as long as it was.
 abbrev pub rewrite_answer : List ℕ → ℕ → ℕ → ℕ → Result ℕ Fault

@@ -1,5 +1,5 @@
 // Whole files.
-ghost use Rattle.std.specs.Prelude.{◌≡◌, length, OnOk};
+ghost use Rattle.std.specs.Prelude.{◌≡◌, length, Ok, OnOk};
 ghost use Rattle.sheetfile.specs.Laws.{LoadsExactly};
 ghost use Rattle.sheetfile.specs.Layout.{SheetFile};
 ghost use Rattle.sheetfile.specs.Reading.{loaded, loaded_within};
@@ -24,7 +24,7 @@ pub const MOST_ENTRIES: usize = 4096;
 pub const MOST_STARTS: usize = MOST_CARRIERS + 1;
 
 // Whether a file loads into tables of such lengths; no table is written.
-fn survey(bytes: &[u8], starts: usize, room: usize) -> Result<Heading, Fault>
+pub(crate) fn survey(bytes: &[u8], starts: usize, room: usize) -> Result<Heading, Fault>
     ensures { result ≡ heading_answer (loaded bytes.now starts room) }
 {
     let mut reader = Reader::new(bytes);
@@ -38,6 +38,27 @@ fn survey(bytes: &[u8], starts: usize, room: usize) -> Result<Heading, Fault>
     Ok(heading)
 }
 
+// Loads a file into the tables that it was surveyed for: it is not refused.
+pub(crate) fn load_surveyed(
+    bytes: &[u8],
+    heading: Heading,
+    starts: &mut [usize],
+    entries: &mut [Entry],
+) -> Result<(), Fault>
+    requires { Ok heading ≡ heading_answer (loaded bytes.now (length starts.old) (length entries.old)) }
+    ensures answer { result ≡ Ok tt }
+    ensures starts { starts.new ≡ starts_after bytes.now starts.old (length entries.old) }
+    ensures entries { entries.new ≡ entries_after bytes.now (length starts.old) entries.old }
+    ensures exact { LoadsExactly bytes.now starts.old entries.old (Ok heading) starts.new entries.new }
+{
+    let mut loader = Bare::new(bytes).read_heading(starts)?;
+    for _i in 0..heading.carriers {
+        loader.read_row(starts, entries)?;
+    }
+    loader.close()?;
+    Ok(())
+}
+
 // Loads a whole file into the tables, and gives its heading. Where it is refused, the tables stay as they were.
 // Starts and entries are two parameters in this crate: the caller lends each of its tables to each call.
 pub fn load(bytes: &[u8], starts: &mut [usize], entries: &mut [Entry]) -> Result<Heading, Fault>
@@ -47,11 +68,8 @@ pub fn load(bytes: &[u8], starts: &mut [usize], entries: &mut [Entry]) -> Result
     ensures exact { LoadsExactly bytes.now starts.old entries.old result starts.new entries.new }
 {
     let heading = survey(bytes, starts.len(), entries.len())?;
-    let mut loader = Bare::new(bytes).read_heading(starts)?;
-    for _i in 0..heading.carriers {
-        loader.read_row(starts, entries)?;
-    }
-    Ok(loader.close()?.heading())
+    load_surveyed(bytes, heading, starts, entries)?;
+    Ok(heading)
 }
 
 // Loads a whole file into the tables, and fills the sheet from them. Only the load can be refused, and then the sheet
