@@ -1,5 +1,6 @@
 // Whole, damaged and random sheet files through the loader, the same ones in each run: every accepted one is written
-// again and compared, and the three states are compared with the load of a whole file. Prints what became of them.
+// again and compared, also to a buffer that is too short, and the three states are compared with the load of a whole
+// file. Prints what became of them.
 #![tactic(auto)]
 
 use draws::Draw;
@@ -79,6 +80,14 @@ fn random_file(heap: Global, draw: &mut Draw) -> Result<Vec<u8>, AllocError> {
     Ok(bytes)
 }
 
+// What is lent to a load, and the buffer that is written to. The tables are short, so that some sheets do not fit; no file
+// of these trials is longer than the buffer.
+const STARTS: [usize; 6] = [7; 6];
+
+const ENTRIES: [Entry; 20] = [Entry { job: 9, worth: 9 }; 20];
+
+const OUT: [u8; 160] = [255; 160];
+
 // What became of files. Refusals are counted by their numbers, which are printed, in their order.
 #[derive(Drop)]
 struct Tally {
@@ -105,10 +114,11 @@ impl Tally {
         }
     }
 
-    // A file was refused; both ways to load it should agree, and no load is refused for what only a hall refuses.
-    fn refuse(&mut self, refusal: Refusal, agreed: bool) -> Result<(), AllocError> {
+    // A file was refused; that should alter nothing, both ways to load it should agree, and no load is refused for what
+    // only a hall refuses.
+    fn refuse(&mut self, refusal: Refusal, right: bool) -> Result<(), AllocError> {
         let number = refusal.number();
-        if agreed && number <= Refusal::TooShort.number() {
+        if right && number <= Refusal::TooShort.number() {
             let count = self.refused.entry(number)?.or_insert(0);
             *count = count.saturating_add(1);
         } else {
@@ -119,16 +129,14 @@ impl Tally {
 
     // Loads a file and writes it again, and counts what became of it.
     fn examine(&mut self, bytes: &[u8]) -> Result<(), AllocError> {
-        // Short tables of a fixed size, here and in the load that is compared: some sheets must not fit.
-        let mut starts = [7usize; 6];
-        let mut entries = [Entry { job: 9, worth: 9 }; 20];
-        let mut out = [255u8; 160];
-        match rewrite(bytes, &mut starts, &mut entries, &mut out) {
-            Ok(len) => {
-                self.accept(out.get(0..len) == Some(bytes) && agrees(bytes));
+        let (answer, right) = write_again(bytes, OUT.len());
+        let right = right && agrees(bytes);
+        match answer {
+            Ok(_) => {
+                self.accept(right && refused_if_short(bytes));
                 Ok(())
             }
-            Err(fault) => self.refuse(fault.refusal, agrees(bytes)),
+            Err(fault) => self.refuse(fault.refusal, right),
         }
     }
 
@@ -213,14 +221,39 @@ fn load_by_states(
 // Whether a file comes to the same as a whole and state by state: the same heading and tables, or the same refusal at
 // the same place.
 fn agrees(bytes: &[u8]) -> bool {
-    let mut starts = [7usize; 6];
-    let mut entries = [Entry { job: 9, worth: 9 }; 20];
-    let mut starts_by_states = starts;
-    let mut entries_by_states = entries;
+    let mut starts = STARTS;
+    let mut entries = ENTRIES;
+    let mut starts_by_states = STARTS;
+    let mut entries_by_states = ENTRIES;
     let whole = load(bytes, &mut starts, &mut entries);
     let by_states = load_by_states(bytes, &mut starts_by_states, &mut entries_by_states);
     whole == by_states
         && (whole.is_err() || (starts == starts_by_states && entries == entries_by_states))
+}
+
+// Loads a file and writes it again to so many bytes of the buffer. Gives the answer, and whether the buffer then begins
+// with the file; where it is refused, whether the tables and the buffer stayed as they were.
+fn write_again(bytes: &[u8], room: usize) -> (Result<usize, Fault>, bool) {
+    let mut starts = STARTS;
+    let mut entries = ENTRIES;
+    let mut out = OUT;
+    let answer = rewrite(
+        bytes,
+        &mut starts,
+        &mut entries,
+        &mut out[..room.min(OUT.len())],
+    );
+    let right = match answer {
+        Ok(len) => out.get(0..len) == Some(bytes),
+        Err(_) => starts == STARTS && entries == ENTRIES && out == OUT,
+    };
+    (answer, right)
+}
+
+// Whether an accepted file is refused with 12 by a buffer one byte shorter than it, and all that is lent stays as it was.
+fn refused_if_short(bytes: &[u8]) -> bool {
+    let (answer, kept) = write_again(bytes, bytes.len().saturating_sub(1));
+    kept && answer == Err(Fault::bare(Refusal::TooShort))
 }
 
 // Examines some sheets, whole and damaged.

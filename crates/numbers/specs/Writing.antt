@@ -1,11 +1,12 @@
-use Rattle.std.specs.Prelude.{ℕ, ◌+◌, Bool, cond, ◌&&◌, List, ◌++◌, length, take, drop, Ok, Err, Result, nat_le}
+use Rattle.std.specs.Prelude.{ℕ, ◌+◌, Bool, cond, ◌&&◌, List, length, Ok, Err, Result, nat_le}
+use Rattle.std.specs.List.{splice}
 use Rattle.refusals.specs.declared.Refusal.{Refusal}
 use Rattle.refusals.specs.declared.Refusal.TheVariants.{TooShort}
 use Rattle.numbers.specs.Groups.{encoded}
 
 -- A list with other elements in the stead of its own from a place on.
 abbrev pub over : {A : Type 0} → List A → ℕ → List A → List A
-over xs at new = take at xs ++ (new ++ drop (at + length new) xs)
+over xs at new = splice xs at (at + length new) new
 
 -- A number can be written at a place of so many bytes: it has at most six groups, and they end within the bytes.
 abbrev pub fits_at : ℕ → ℕ → ℕ → Bool
