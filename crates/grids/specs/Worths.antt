@@ -1,5 +1,5 @@
 -- What the entries of a grid come to, and what its pairings are worth.
-use Rattle.std.specs.Prelude.{◌≡◌, ℕ, ◌+◌, ◌/◌, ◌%◌, ◌^◌, ◌-◌, ◌<◌, ◌≤◌, Bool, true, false, cond, ◌==◌, ◌||◌, List, [], ◌∷◌, min, max, slice_index, slice_index_or, slice_set, Option, Some, None}
+use Rattle.std.specs.Prelude.{◌≡◌, ℕ, ◌+◌, ◌/◌, ◌%◌, ◌^◌, ◌-◌, ◌<◌, ◌≤◌, Bool, true, false, cond, ◌==◌, ◌||◌, List, [], ◌∷◌, min, max, nat_lt, slice_index, slice_index_or, slice_set, Option, Some, None}
 use Rattle.std.specs.Option.{option_map, unwrap_or}
 use Rattle.grids.specs.declared.Grid.{Grid}
 
@@ -10,6 +10,10 @@ worth_at rows i j = slice_index (slice_index_or rows i []) j
 -- Sums and products stop at the largest number of 64 bits.
 abbrev pub capped : ℕ → ℕ
 capped n = min n (2 ^ 64 - 1)
+
+-- A worth below a floor counts as 0.
+abbrev pub floored : ℕ → ℕ → ℕ
+floored floor n = cond (nat_lt n floor) 0 n
 
 -- The worth of a pairing, to which the jobs are still free that are not taken: the number's digits in base five give the carriers,
 -- one after the other, a job each, or none at 4. None if a carrier gets a job that it may not take, or that is taken.

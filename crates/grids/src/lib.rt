@@ -4,7 +4,7 @@
 pub mod groups;
 
 ghost use Rattle.std.specs.Prelude.{◌≡◌, ℕ, ◌≤◌, ◌*◌, if◌then◌else◌, false, slice_index, slice_index_or};
-ghost use Rattle.grids.specs.Worths.{IsBest, RowWithin, Within, capped, pairing_worth, worth_at};
+ghost use Rattle.grids.specs.Worths.{IsBest, RowWithin, Within, capped, floored, pairing_worth, worth_at};
 
 use draws::Draw;
 
@@ -73,6 +73,19 @@ impl Grid {
         }
     }
 
+    // The grid in which a worth below a floor is 0, with the ceiling as it was.
+    pub fn floor(&self, floor: u64) -> Grid
+        ensures counts { (result.carriers ≡ self.now.carriers) × (result.jobs ≡ self.now.jobs) }
+        ensures ceiling { result.ceiling ≡ self.now.ceiling }
+        ensures worths { (i j : ℕ) → worth_at result.worths i j ≡ floored floor (worth_at self.now.worths i j) }
+    {
+        let mut worths = self.worths;
+        for row in worths.iter_mut() {
+            *row = floor_row(*row, floor);
+        }
+        Grid { worths, ..*self }
+    }
+
     // The grid in which only these carriers may take a job.
     pub fn only(&self, carriers: &[bool; 4]) -> Grid
         ensures counts { (result.carriers ≡ self.now.carriers) × (result.jobs ≡ self.now.jobs) }
@@ -127,6 +140,18 @@ fn times_row(mut row: [u64; 4], factor: u64) -> [u64; 4]
     row
 }
 
+// A row whose worths below a floor become 0.
+fn floor_row(mut row: [u64; 4], floor: u64) -> [u64; 4]
+    ensures { (j : ℕ) → slice_index result j ≡ floored floor (slice_index row j) }
+{
+    for worth in row.iter_mut() {
+        if *worth < floor {
+            *worth = 0;
+        }
+    }
+    row
+}
+
 // What a pairing of these carriers is worth, if it gives each of them a job that it may take and that no other has. Its number in base
 // five gives each carrier a job, or none at 4.
 fn pairing_worth(rows: &[[u64; 4]], number: u32, mut taken: [bool; 4]) -> Option<u64>
@@ -165,6 +190,7 @@ mod tests {
         assert_eq!(rt; TABLE.worth(4, 0), 0);
         assert_eq!(rt; TABLE.best(), 24);
         assert_eq!(rt; TABLE.times(2).best(), 48);
+        assert_eq!(rt; TABLE.floor(8).best(), 19);
         assert_eq!(rt; TABLE.only(&[true, false, true, false]).best(), 19);
     }
 
