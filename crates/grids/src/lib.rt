@@ -3,7 +3,7 @@
 
 pub mod groups;
 
-ghost use Rattle.std.specs.Prelude.{◌≡◌, ℕ, ◌≤◌, ◌*◌, if◌then◌else◌, false, slice_index, slice_index_or};
+ghost use Rattle.std.specs.Prelude.{◌≡◌, ℕ, ◌≤◌, ◌*◌, if◌then◌else◌, false, [], map, slice_index_or};
 ghost use Rattle.grids.specs.Worths.{IsBest, RowWithin, Within, capped, floored, pairing_worth, worth_at};
 
 use draws::Draw;
@@ -60,7 +60,7 @@ impl Grid {
     pub fn times(&self, factor: u64) -> Grid
         ensures counts { (result.carriers ≡ self.now.carriers) × (result.jobs ≡ self.now.jobs) }
         ensures ceiling { result.ceiling ≡ capped (self.now.ceiling * factor) }
-        ensures worths { (i j : ℕ) → worth_at result.worths i j ≡ capped (worth_at self.now.worths i j * factor) }
+        ensures worths { (i : ℕ) → slice_index_or result.worths i [] ≡ map (λ w. capped (w * factor)) (slice_index_or self.now.worths i []) }
     {
         let mut worths = self.worths;
         for row in worths.iter_mut() {
@@ -77,7 +77,7 @@ impl Grid {
     pub fn floor(&self, floor: u64) -> Grid
         ensures counts { (result.carriers ≡ self.now.carriers) × (result.jobs ≡ self.now.jobs) }
         ensures ceiling { result.ceiling ≡ self.now.ceiling }
-        ensures worths { (i j : ℕ) → worth_at result.worths i j ≡ floored floor (worth_at self.now.worths i j) }
+        ensures worths { (i : ℕ) → slice_index_or result.worths i [] ≡ map (floored floor) (slice_index_or self.now.worths i []) }
     {
         let mut worths = self.worths;
         for row in worths.iter_mut() {
@@ -131,25 +131,17 @@ fn draw_row(draw: &mut Draw, jobs: usize, ceiling: u64) -> [u64; 4]
 }
 
 // A row whose worths are multiplied.
-fn times_row(mut row: [u64; 4], factor: u64) -> [u64; 4]
-    ensures { (j : ℕ) → slice_index result j ≡ capped (slice_index row j * factor) }
+fn times_row(row: [u64; 4], factor: u64) -> [u64; 4]
+    ensures { result ≡ map (λ w. capped (w * factor)) row }
 {
-    for worth in row.iter_mut() {
-        *worth = worth.saturating_mul(factor);
-    }
-    row
+    row.map(|worth| worth.saturating_mul(factor))
 }
 
 // A row whose worths below a floor become 0.
-fn floor_row(mut row: [u64; 4], floor: u64) -> [u64; 4]
-    ensures { (j : ℕ) → slice_index result j ≡ floored floor (slice_index row j) }
+fn floor_row(row: [u64; 4], floor: u64) -> [u64; 4]
+    ensures { result ≡ map (floored floor) row }
 {
-    for worth in row.iter_mut() {
-        if *worth < floor {
-            *worth = 0;
-        }
-    }
-    row
+    row.map(|worth| if worth < floor { 0 } else { worth })
 }
 
 // What a pairing of these carriers is worth, if it gives each of them a job that it may take and that no other has. Its number in base

@@ -1,9 +1,9 @@
-use Rattle.std.proofs.Common.{◌≡◌, ℕ, ◌*◌, ◌<◌, ◌≤◌, [], slice_index_or}
-use Rattle.grids.specs.Worths.{capped, worth_at}
+use Rattle.std.proofs.Common.{◌≡◌, ℕ, ◌*◌, ◌<◌, ◌≤◌, [], map, slice_index_or}
+use Rattle.grids.specs.Worths.{capped}
 use Rattle.grids.proofs.Grid.times.Given as goal
 
 abbrev pub invariant-loop-row : goal.invariant-loop-row
 invariant-loop-row l = record {
-  done : (i j : ℕ) → i < l.row-index → worth_at l.row-items i j ≡ capped (worth_at l.initial.row-items i j * l.factor);
+  done : (i : ℕ) → i < l.row-index → slice_index_or l.row-items i [] ≡ map (λ w. capped (w * l.factor)) (slice_index_or l.initial.row-items i []);
   left : (i : ℕ) → l.row-index ≤ i → slice_index_or l.row-items i [] ≡ slice_index_or l.initial.row-items i [];
 }
