@@ -1,0 +1,72 @@
+// What is drawn: the tables of a random grid, and random lists of calls.
+use auction::call::Call;
+use draws::Draw;
+use grids::Grid;
+use sources::form::Entry;
+use std::alloc::{AllocError, Global};
+
+// The calls of one list.
+pub(crate) const CALLS: usize = 60;
+
+// The tables of a grid.
+#[derive(Drop)]
+pub(crate) struct Tables {
+    pub(crate) starts: Vec<usize>,
+    pub(crate) entries: Vec<Entry>,
+}
+
+pub(crate) fn tables_of(heap: Global, grid: &Grid) -> Result<Tables, AllocError> {
+    let mut starts = vec![in heap; 0]?;
+    let mut entries = Vec::new(heap);
+    for row in grid.worths.iter().take(grid.carriers) {
+        entries.extend(
+            row.iter()
+                .enumerate()
+                .filter(|(_, worth)| **worth > 0)
+                .map(|(job, worth)| Entry { job, worth: *worth }),
+        )?;
+        starts.push(entries.len())?;
+    }
+    Ok(Tables { starts, entries })
+}
+
+// A random question. Its number may be one too large.
+fn draw_question(draw: &mut Draw, carrier: usize, job: usize) -> Call {
+    match draw.below(5) {
+        0 => Call::PriceOf(job),
+        1 => Call::HolderOf(job),
+        2 => Call::StandingOf(carrier),
+        3 => Call::TotalWorth,
+        _ => Call::AllCounts,
+    }
+}
+
+// A random call, with numbers that are mostly good.
+fn draw_call(draw: &mut Draw, grid: &Grid) -> Call {
+    let carrier = draw.below((grid.carriers as u64).saturating_add(1)) as usize;
+    let job = draw.below((grid.jobs as u64).saturating_add(1)) as usize;
+    match draw.below(18) {
+        0 => Call::Start {
+            step: draw.below(4),
+            lanes: draw.below(5) as usize,
+        },
+        1..=4 => Call::Summon(carrier),
+        5..=9 => Call::Look(carrier),
+        10..=13 => Call::Settle(carrier),
+        14 => Call::Run {
+            depth: draw.below(5) as usize,
+            budget: draw.below(30),
+        },
+        _ => draw_question(draw, carrier, job),
+    }
+}
+
+// A random list of calls. Three of four begin with a start.
+pub(crate) fn draw_calls(draw: &mut Draw, grid: &Grid) -> [Call; CALLS] {
+    let starts = draw.below(4) > 0;
+    let mut calls = [Call::Start { step: 1, lanes: 2 }; CALLS];
+    for call in calls.iter_mut().skip(usize::from(starts)) {
+        *call = draw_call(draw, grid);
+    }
+    calls
+}
