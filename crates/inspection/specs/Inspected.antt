@@ -1,5 +1,5 @@
 -- What comes of inspecting any bytes.
-use Rattle.std.specs.Prelude.{◌≡◌, ℕ, List, Some, None, Ok, Err, IsOkAnd, string_bytes, Result, String}
+use Rattle.std.specs.Prelude.{◌≡◌, ℕ, Some, None, Ok, Err, IsOkAnd, string_bytes, Result, String}
 use Rattle.std.specs.declared.alloc.Global.{Global}
 use Rattle.refusals.specs.declared.Fault.{Fault}
 use Rattle.sources.specs.Meaning.{Meaning}

@@ -1,6 +1,6 @@
 -- A line by its words.
-use Rattle.std.proofs.Common.{◌≡◌, ℕ, Bool, false, eqb, List, [], ◌∷◌, is_some, Some, None, Option, get_or, sym, refl, ap, ◌∙◌}
-use Rattle.std.proofs.lemmas.Bool.{cond-false}
+use Rattle.std.proofs.Common.{◌≡◌, ℕ, Bool, false, eqb, List, [], ◌∷◌, length, is_some, Some, None, Option, get_or, sym, refl, ap, ◌∙◌, arith}
+use Rattle.std.proofs.lemmas.Bool.{cond-false, lt-ltb}
 use Rattle.std.proofs.lemmas.Iterator.Splits.{YieldsList-from_slice_split}
 use Rattle.std.specs.Fn.{CalledAt}
 use Rattle.std.specs.Iterator.{AlwaysYields}
@@ -31,7 +31,9 @@ module _ {S A B : Type 0} (steps : S → Option A → S → Type 0) (v : A → B
 module _ {S A : Type 0} (steps : S → Option A → S → Type 0) (v : A → List ℕ) (w : List ℕ) where
   said_third : (s t : S) (a b : List ℕ) (o : Option A) (ws : List (List ℕ)) → steps s o t → AlwaysYields steps v s ws → said_with w (Some a) (Some b) (is_some o) ≡ said_by_words (w ∷ (a ∷ (b ∷ ws)))
   said_third s t a b None ws k h = ap (λ r. said_by_words (w ∷ (a ∷ (b ∷ r)))) (sym (no_item steps v s t ws k h))
-  said_third s t a b (Some c) ws k h = ap (λ r. said_by_words (w ∷ (a ∷ (b ∷ r)))) (sym (an_item steps v s t c ws k h).is)
+  said_third s t a b (Some c) ws k h =
+      let m = an_item steps v s t c ws k h in
+      ap (said_with w (Some a) (Some b)) (sym (lt-ltb 2 (length (a ∷ (b ∷ (v c ∷ m.rest)))) (omega arith))) ∙ ap (λ r. said_by_words (w ∷ (a ∷ (b ∷ r)))) (sym m.is)
 
   said_second : (s t u : S) (a : List ℕ) (o p : Option A) (ws : List (List ℕ)) → steps s o t → steps t p u → AlwaysYields steps v s ws → said_with w (Some a) (option_map v o) (is_some p) ≡ said_by_words (w ∷ (a ∷ ws))
   said_second s t u a None p ws k l h = ap (λ r. said_by_words (w ∷ (a ∷ r))) (sym (no_item steps v s t ws k h))
