@@ -35,7 +35,7 @@ pub(crate) fn check(holds: bool) -> Result<(), Trouble> {
 }
 
 // What an auction is held on: the worths of the sheet, the worths above all layers, how many layers there are, and the factor of the
-// uppermost layer, or 0 if that is no times layer. `below` has the worths below the times layer, if there is one.
+// uppermost layer, or 0 if that is no times layer. `below` has the worths below the times layer, or above all layers without one.
 #[derive(Clone, Copy)]
 pub(crate) struct Terms {
     pub(crate) sheet: Grid,
@@ -113,12 +113,7 @@ impl Seen {
     pub(crate) fn started(step: u64) -> Seen {
         Seen {
             step,
-            counts: Counts {
-                summonses: 0,
-                awards: 0,
-                stales: 0,
-                outs: 0,
-            },
+            counts: Counts::default(),
             standings: [Standing::Waiting; 4],
             prices: [0; 4],
             summoned_at: [0; 4],
