@@ -1,20 +1,14 @@
 -- Lines that are added one behind the other.
-use Rattle.std.proofs.Common.{◌≡◌, ℕ, suc, ◌+◌, ◌*◌, ◌<◌, ◌≤◌, true, ◌||◌, ltb, List, [], ◌∷◌, ◌++◌, length, get_or, take, Ok, Err, Result, is_ok, sym, ap, ◌∙◌, subst, arith}
-use Rattle.std.proofs.lemmas.Bool.{cond-false, false≢true, le-ltb}
+use Rattle.std.proofs.Common.{◌≡◌, ℕ, suc, ◌+◌, ◌*◌, ◌<◌, ◌≤◌, true, ◌||◌, List, [], ◌∷◌, ◌++◌, length, get_or, take, sym, ap, ◌∙◌, arith}
 use Rattle.std.proofs.lemmas.List.{append_assoc, append-nil, length-take-le, take_more}
 use Rattle.std.proofs.ByRecursion.{All-from_get_or, All-take}
 use Rattle.std.specs.List.{AllByRecursion}
-use Rattle.refusals.specs.declared.Fault.{Fault}
 use Rattle.sources.specs.declared.form.Heading.{Heading}
 use Rattle.sources.specs.Meaning.{Meaning, Sound}
 use Rattle.sources.specs.Sheets.{blank, within_limits}
 use Rattle.sources.proofs.Reading.{row_length}
 use Rattle.sheetfile.specs.Layout.{Row, entries_in}
-use Rattle.sheetfile.specs.Reading.{loaded}
-use Rattle.sheetfile.specs.Writing.{rewrite_answer}
-use Rattle.sheetfile.specs.Steps.{updated, without_value}
 use Rattle.sheetfile.proofs.Sheets.{entries_push}
-use Rattle.sheetfile.specs.Reading.{loaded_within}
 use Rattle.inspection.specs.Listing.{row_line, row_lines}
 
 -- pieces of a text, one behind the other
@@ -55,19 +49,3 @@ entries_few m s jobs carriers i inside =
     let rows : AllByRecursion (λ row. length row ≤ 256) m.rows = All-from_get_or (λ row. length row ≤ 256) m.rows [] (λ k l. omega (arith, row_length m s k)) in
     let c = s.counted in
     omega (arith, few (take i m.rows) (All-take (λ row. length row ≤ 256) i m.rows rows), length-take-le i m.rows (omega arith))
-
--- what a load that succeeded tells
-pub loaded-told : (P : Result Meaning Fault → Type 0) (r : Result Meaning Fault) (old now : Meaning) → is_ok (without_value r) ≡ true → now ≡ updated r old (λ m. m) → P (Ok now) → P r
-loaded-told P (Err e) old now ok is p = absurd (false≢true ok)
-loaded-told P (Ok m) old now ok is p = subst (λ x. P (Ok x)) is p
-
--- a file of at most 32,768 bytes is loaded
-pub short_enough : (bs : List ℕ) → length bs ≤ 32768 → loaded_within bs ≡ loaded bs 129 4096
-short_enough bs l = cond-false (ltb 32768 (length bs)) _ _ (le-ltb 32768 (length bs) l)
-
--- why it is refused, where it is written again into as many bytes, or loaded
-pub rewrite-refused : (bs : List ℕ) (starts room out : ℕ) (f : Fault) → length bs ≤ 32768 → starts ≡ 129 → room ≡ 4096 → out ≡ length bs → rewrite_answer bs starts room out ≡ Err f → loaded_within bs ≡ Err f
-rewrite-refused bs starts room out f l s e o is = grind (arith, short_enough bs l)
-
-pub load-refused : (bs : List ℕ) (starts room : ℕ) (f : Fault) → length bs ≤ 32768 → starts ≡ 129 → room ≡ 4096 → without_value (loaded bs starts room) ≡ Err f → loaded_within bs ≡ Err f
-load-refused bs starts room f l s e is = grind (arith, short_enough bs l)

@@ -10,7 +10,7 @@ ghost use Rattle.sources.specs.OfSheet.{sheet_meaning};
 
 use refusals::{Fault, Refusal};
 use sheetfile::rewriting::rewrite;
-use sheetfile::whole::{MOST_STARTS, load_sheet};
+use sheetfile::whole::{MOST_STARTS, load, sheet_over};
 use sources::asking::{entries, heading_of, row_length};
 use sources::form::{Entry, Heading};
 use sources::sheet::Sheet;
@@ -36,12 +36,12 @@ fn listed(heap: Global, bytes: &[u8]) -> Result<String, Failure<Fault>>
     if bytes.len() > MOST_BYTES {
         return Err(Failure::Refused(Fault::bare(Refusal::TooShort)));
     }
-    let mut starts = vec![in heap; 0usize; MOST_STARTS]?;
-    let mut entries = vec![in heap; Entry { job: 0, worth: 0 }; MOST_ENTRIES]?;
-    let mut out = vec![in heap; 0u8; bytes.len()]?;
+    let mut starts = [0usize; MOST_STARTS];
+    let mut entries = [Entry { job: 0, worth: 0 }; MOST_ENTRIES];
+    let mut out = [0u8; MOST_BYTES];
     rewrite(bytes, &mut starts, &mut entries, &mut out).map_err(Failure::Refused)?;
-    let mut sheet = Sheet::new();
-    load_sheet(bytes, &mut starts, &mut entries, &mut sheet).map_err(Failure::Refused)?;
+    let heading = load(bytes, &mut starts, &mut entries).map_err(Failure::Refused)?;
+    let sheet = sheet_over(heading, &starts, &entries).map_err(Failure::Refused)?;
     Ok(list_sheet(heap, &sheet, bytes.len())?)
 }
 

@@ -10,9 +10,8 @@ ghost use Rattle.std.specs.Prelude.{IfOk};
 use crate::log::{Trouble, read_log};
 use crate::printing::append_lines;
 use crate::running::perform_layered;
-use sheetfile::whole::{MOST_ENTRIES, MOST_STARTS, load_within};
+use sheetfile::whole::{MOST_ENTRIES, MOST_STARTS, load_within, sheet_over};
 use sources::form::Entry;
-use sources::sheet::Sheet;
 use std::alloc::{AllocError, Global};
 use texts::{Failure, Printed};
 
@@ -40,8 +39,8 @@ fn replayed(heap: Global, sheet: &[u8], text: &[u8]) -> Result<String, Failure<T
     // Arrays of these two sizes, since `load_within` asks for them.
     let mut starts = [0usize; MOST_STARTS];
     let mut entries = [Entry { job: 0, worth: 0 }; MOST_ENTRIES];
-    let mut source = Sheet::new();
-    load_within(sheet, &mut starts, &mut entries, &mut source).map_err(Trouble::Sheet)?;
+    let heading = load_within(sheet, &mut starts, &mut entries).map_err(Trouble::Sheet)?;
+    let source = sheet_over(heading, &starts, &entries).map_err(Trouble::Sheet)?;
     let answers = perform_layered(heap, source, log.layers, &log.calls)?;
     let mut lines = String::new(heap);
     append_lines(&mut lines, &log.calls, &answers)?;

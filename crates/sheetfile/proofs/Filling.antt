@@ -1,7 +1,12 @@
 -- What a load accepts, and a file that is written again.
-use Rattle.std.proofs.Common.{◌≡◌, ℕ, ◌+◌, ◌≤◌, List, length, get_or, take, drop, Ok, Err, Result, sym, refl, ap, ◌∙◌, subst, arith, w8, Fits}
-use Rattle.std.proofs.lemmas.List.{take_at}
-use Rattle.std.proofs.lemmas.Bool.{cond-true}
+use Rattle.std.proofs.Common.{◌≡◌, ℕ, ◌+◌, ◌<◌, ◌≤◌, ltb, cond, ◌⊎◌, ⊎_elim, List, length, get_or, take, drop, Some, None, Ok, Err, Option, Result, Bor, MatchOption, is_ok, sym, ap, ◌∙◌, subst, arith, w8, Fits}
+use Rattle.std.specs.Result.{result_map_both}
+use Rattle.std.specs.Option.{unwrap_or}
+use Rattle.std.specs.List.{slice_range}
+use native.Mathlib.Nat.{sub-zero}
+use Rattle.refusals.specs.declared.Refusal.{Refusal}
+use Rattle.std.proofs.lemmas.List.{take_all, take_at}
+use Rattle.std.proofs.lemmas.Bool.{cond-true, cond-false, le-ltb}
 use Rattle.refusals.specs.Faults.{fault_of}
 use Rattle.refusals.specs.declared.Fault.{Fault}
 use Rattle.refusals.specs.declared.Refusal.TheVariants.{CountsOutside, TooShort}
@@ -13,16 +18,40 @@ use Rattle.sources.specs.declared.form.Entry.{Entry}
 use Rattle.sources.specs.declared.form.Heading.{Heading}
 use Rattle.sheetfile.specs.Laws.{LoadsExactly}
 use Rattle.sheetfile.specs.Layout.{LongEnough, SheetFile, file_of, meaning_of}
-use Rattle.sheetfile.specs.Reading.{loaded}
+use Rattle.sheetfile.specs.Reading.{loaded, loaded_within}
 use Rattle.sheetfile.specs.Steps.{and_then, room_for, updated}
 use Rattle.numbers.specs.Writing.{over}
-use Rattle.sheetfile.specs.Tables.{entries_after, heading_answer, starts_after}
+use Rattle.sheetfile.specs.Tables.{entries_after, heading_answer, sheet_in, starts_after}
 use Rattle.sheetfile.specs.Writing.{rewrite_answer, write_answer, written}
 use Rattle.sheetfile.proofs.Again.{no_zeros_in}
 use Rattle.sheetfile.proofs.Bounds.{bounded}
 use Rattle.sheetfile.proofs.Exact.{file_back, file_read}
 use Rattle.sheetfile.proofs.Steps.{ok_same, room_there}
 use Rattle.sheetfile.proofs.Tables.{heading_err, heading_ok, updated_err}
+
+-- the first starts, or all of them if there are fewer
+pub front_is : (o : Option (Bor (List ℕ))) (s : Bor (List ℕ)) (n : ℕ) →
+    MatchOption o ((n < 0) ⊎ (length s.now < n)) (λ x. (0 ≤ n) × (n ≤ length s.now) × (x.now ≡ slice_range s.now 0 n) × (length x.now + 0 ≡ n)) → (unwrap_or o s).now ≡ take n s.now
+front_is None s n few = sym (take_all n s.now (⊎_elim (λ l. omega (arith, l)) (λ l. omega (arith, l)) few))
+front_is (Some x) s n h = h.2 ∙ ap (λ k. take k s.now) (sub-zero n)
+
+-- what filling a sheet from them says
+module _ (h : Heading) (starts front : List ℕ) (entries : List Entry) (cut : front ≡ take (h.carriers + 1) starts) where
+  in_front : result_map_both (λ _. sheet_of h front entries) fault_of (fill_verdict h front entries) ≡ sheet_in h starts entries
+  in_front = ap (λ z. result_map_both (λ _. sheet_of h z entries) fault_of (fill_verdict h z entries)) cut
+
+  pub sheet_told : (r : Result (Unit {0}) Refusal) → r ≡ fill_verdict h front entries → r ≡ Ok tt → (old new : Meaning) → new ≡ cond (is_ok r) (sheet_of h front entries) old → Ok new ≡ sheet_in h starts entries
+  sheet_told r is ok old new means =
+      ap Ok (means ∙ ap (λ z. cond (is_ok z) (sheet_of h front entries) old) ok)
+      ∙ sym (ap (result_map_both (λ _. sheet_of h front entries) fault_of) (sym is ∙ ok)) ∙ in_front
+
+  pub sheet_refused : (r : Result (Unit {0}) Refusal) → r ≡ fill_verdict h front entries → (e : Refusal) → r ≡ Err e → Err (fault_of e) ≡ sheet_in h starts entries
+  sheet_refused r is e err = sym (ap (result_map_both (λ _. sheet_of h front entries) fault_of) (sym is ∙ err)) ∙ in_front
+
+-- a file of at most 32,768 bytes is loaded, into tables of the limits
+pub within_loaded : (bs : List ℕ) (starts room : ℕ) → length bs ≤ 32768 → starts ≡ 129 → room ≡ 4096 → loaded_within bs ≡ loaded bs starts room
+within_loaded bs starts room l s e =
+    cond-false (ltb 32768 (length bs)) _ _ (le-ltb 32768 (length bs) l) ∙ sym (ap (λ n. loaded bs n 4096) s) ∙ sym (ap (λ n. loaded bs starts n) e)
 
 -- what is known of a file that was loaded
 module _ (bs starts : List ℕ) (entries : List Entry) (typed : (i : ℕ) → Fits w8 (get_or bs i 0)) (starts' : List ℕ) (entries' : List Entry)
@@ -86,17 +115,23 @@ module _ (bs starts : List ℕ) (entries : List Entry) (typed : (i : ℕ) → Fi
             ∙ sym (room_there (fault_of TooShort) (length bs) room (length bs) fits)
             ∙ sym (ap (λ q. and_then q (λ _. room_for (fault_of TooShort) (length bs) room (length bs))) whole.1)
 
+    -- the sheet over the tables means the file
+    pub fills_whole : sheet_in h starts' entries' ≡ Ok whole.0
+    fills_whole =
+        let s = fills_sheet whole.0 whole.1 in
+        ap (λ (x : Heading). sheet_in x starts' entries') whole.2
+        ∙ ap (result_map_both (λ _. sheet_of (heading_of whole.0) (take (whole.0.carriers + 1) starts') entries') fault_of) s.0 ∙ ap Ok s.1
+
+  pub loads_then_fills : (r : Result Heading Fault) → r ≡ heading_answer (loaded bs (length starts) (length entries)) → and_then r (λ h. sheet_in h starts' entries') ≡ loaded bs (length starts) (length entries)
+  loads_then_fills (Err e) told = sym (heading_err (loaded bs (length starts) (length entries)) e told)
+  loads_then_fills (Ok h) told = fills_whole h told ∙ sym (whole h told).1
+
   module _ (r : Result Heading Fault) (told : r ≡ heading_answer (loaded bs (length starts) (length entries))) where
-    only : (h : Heading) → r ≡ Ok h → (m : Meaning) × SheetFile bs m × LongEnough m (length starts) (length entries) × (h ≡ heading_of m)
-        × (fill_verdict h (take (h.carriers + 1) starts') entries' ≡ Ok tt) × (sheet_of h (take (h.carriers + 1) starts') entries' ≡ m)
+    only : (h : Heading) → r ≡ Ok h → (m : Meaning) × SheetFile bs m × LongEnough m (length starts) (length entries) × (h ≡ heading_of m) × (sheet_in h starts' entries' ≡ Ok m)
     only h ok =
-        let k = heading_ok (loaded bs (length starts) (length entries)) h (sym ok ∙ told) in
+        let k = whole h (sym ok ∙ told) in
         let f = file_read bs typed (length starts) (length entries) k.0 k.1 in
-        let s = fills_sheet k.0 k.1 in
-        subst
-        (λ (x : Heading). (m : Meaning) × SheetFile bs m × LongEnough m (length starts) (length entries) × (x ≡ heading_of m)
-        × (fill_verdict x (take (x.carriers + 1) starts') entries' ≡ Ok tt) × (sheet_of x (take (x.carriers + 1) starts') entries' ≡ m))
-        (sym k.2) (k.0, f.0, f.1, refl, s.0, s.1)
+        (k.0, f.0, f.1, k.2, fills_whole h (sym ok ∙ told))
 
     pub loads_exactly : LoadsExactly bs starts entries r starts' entries'
     loads_exactly = record {

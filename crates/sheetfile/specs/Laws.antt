@@ -1,25 +1,23 @@
 -- What loading and writing promise, in terms of the layout.
-use Rattle.std.specs.Prelude.{◌≡◌, ℕ, ◌+◌, List, length, take, Ok, Err, Result}
+use Rattle.std.specs.Prelude.{◌≡◌, ℕ, List, length, take, Ok, Err, Result}
 use Rattle.refusals.specs.declared.Fault.{Fault}
 use Rattle.refusals.specs.declared.Refusal.{Refusal}
 use Rattle.sources.specs.Meaning.{Meaning}
-use Rattle.sources.specs.Sheets.{fill_verdict, sheet_of}
 use Rattle.sources.specs.Tables.{entries_of, heading_of, starts_of}
 use Rattle.sources.specs.declared.form.Entry.{Entry}
 use Rattle.sources.specs.declared.form.Heading.{Heading}
 use Rattle.sheetfile.specs.Layout.{LongEnough, SheetFile}
 use Rattle.sheetfile.specs.Reading.{loaded}
+use Rattle.sheetfile.specs.Tables.{sheet_in}
 use Rattle.numbers.specs.Writing.{over}
 use Rattle.sheetfile.specs.Writing.{without_zeros}
 
 -- A load accepts exactly the sheet files for which the tables are long enough. The answer is then their heading, and the
--- tables hold their rows; a sheet that is filled from them is accepted, and means the file. A refused load leaves the
--- tables as they were.
+-- tables hold their rows, so that the sheet over them means the file. A refused load leaves the tables as they were.
 pub record LoadsExactly (bytes starts : List ℕ) (entries : List Entry) (r : Result Heading Fault) (starts' : List ℕ) (entries' : List Entry) : Type 0 where
   pub every : (m : Meaning) → SheetFile bytes m → LongEnough m (length starts) (length entries)
       → (r ≡ Ok (heading_of m)) × (starts' ≡ over starts 0 (starts_of m.rows)) × (entries' ≡ over entries 0 (entries_of m.rows))
-  pub only : (h : Heading) → r ≡ Ok h → (m : Meaning) × SheetFile bytes m × LongEnough m (length starts) (length entries) × (h ≡ heading_of m)
-      × (fill_verdict h (take (h.carriers + 1) starts') entries' ≡ Ok tt) × (sheet_of h (take (h.carriers + 1) starts') entries' ≡ m)
+  pub only : (h : Heading) → r ≡ Ok h → (m : Meaning) × SheetFile bytes m × LongEnough m (length starts) (length entries) × (h ≡ heading_of m) × (sheet_in h starts' entries' ≡ Ok m)
   pub refused : (e : Fault) → r ≡ Err e → (starts' ≡ starts) × (entries' ≡ entries)
 
 -- What was written of a source is the sheet file of that source without its zero entries, so that a load accepts it.

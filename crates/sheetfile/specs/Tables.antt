@@ -1,8 +1,11 @@
 -- What the tables hold after a load.
-use Rattle.std.specs.Prelude.{◌≡◌, ℕ, List, map, length, take, Ok, Err, Result}
+use Rattle.std.specs.Prelude.{◌≡◌, ℕ, ◌+◌, List, map, length, take, Ok, Err, Result}
+use Rattle.std.specs.Result.{result_map_both}
 use Rattle.refusals.specs.declared.Fault.{Fault}
 use Rattle.numbers.specs.Writing.{over}
+use Rattle.refusals.specs.Faults.{fault_of}
 use Rattle.sources.specs.Meaning.{Meaning}
+use Rattle.sources.specs.Sheets.{fill_verdict, sheet_of}
 use Rattle.sources.specs.Tables.{entries_of, entry_of, heading_of, starts_of}
 use Rattle.sources.specs.declared.form.Entry.{Entry}
 use Rattle.sources.specs.declared.form.Heading.{Heading}
@@ -22,6 +25,10 @@ starts_after bs starts room = updated (loaded bs (length starts) room) starts (�
 -- The table of entries after a load: it begins with the entries of all rows, and is as it was behind them.
 abbrev pub entries_after : List ℕ → ℕ → List Entry → List Entry
 entries_after bs starts entries = updated (loaded bs starts (length entries)) entries (λ m. over entries 0 (entries_of m.rows))
+
+-- What the sheet over tables means, or why there is none: as filling says of the first starts, one for each carrier and one more.
+abbrev pub sheet_in : Heading → List ℕ → List Entry → Result Meaning Fault
+sheet_in h starts entries = let front = take (h.carriers + 1) starts in result_map_both (λ _. sheet_of h front entries) fault_of (fill_verdict h front entries)
 
 -- How many entries a row has, in the stead of the row.
 abbrev pub row_count : Result (Row × ℕ) Fault → Result (ℕ × ℕ) Fault

@@ -1,11 +1,13 @@
 // Whole files.
-ghost use Rattle.std.specs.Prelude.{◌≡◌, length, Ok, OnOk};
+ghost use Rattle.std.specs.Prelude.{◌≡◌, length, Ok};
+ghost use Rattle.numbers.specs.Writing.{over};
 ghost use Rattle.sheetfile.specs.Laws.{LoadsExactly};
-ghost use Rattle.sheetfile.specs.Layout.{SheetFile};
 ghost use Rattle.sheetfile.specs.Reading.{loaded, loaded_within};
-ghost use Rattle.sheetfile.specs.Steps.{updated, without_value};
-ghost use Rattle.sheetfile.specs.Tables.{entries_after, heading_answer, starts_after};
+ghost use Rattle.sheetfile.specs.Steps.{and_then, updated};
+ghost use Rattle.sheetfile.specs.Tables.{entries_after, heading_answer, sheet_in, starts_after};
 ghost use Rattle.sources.specs.OfSheet.{sheet_meaning};
+ghost use Rattle.sources.specs.Tables.{entries_of, starts_of};
+ghost use Rattle.std.specs.Result.{result_map_both};
 
 use crate::loader::Bare;
 use crate::parts::Reader;
@@ -59,50 +61,51 @@ pub(crate) fn load_surveyed(
     Ok(())
 }
 
-// Loads a whole file into the tables, and gives its heading. Where it is refused, the tables stay as they were.
+// Loads a whole file into the tables, and gives its heading. Where it is refused, the tables stay as they were. The sheet
+// over the tables then means the file.
 // Starts and entries are two parameters in this crate: the caller lends each of its tables to each call.
 pub fn load(bytes: &[u8], starts: &mut [usize], entries: &mut [Entry]) -> Result<Heading, Fault>
     ensures answer { result ≡ heading_answer (loaded bytes.now (length starts.old) (length entries.old)) }
     ensures starts { starts.new ≡ starts_after bytes.now starts.old (length entries.old) }
     ensures entries { entries.new ≡ entries_after bytes.now (length starts.old) entries.old }
     ensures exact { LoadsExactly bytes.now starts.old entries.old result starts.new entries.new }
+    ensures filling { and_then result (λ h. sheet_in h starts.new entries.new) ≡ loaded bytes.now (length starts.old) (length entries.old) }
 {
     let heading = survey(bytes, starts.len(), entries.len())?;
     load_surveyed(bytes, heading, starts, entries)?;
     Ok(heading)
 }
 
-// Loads a whole file into the tables, and fills the sheet from them. Only the load can be refused, and then the sheet
-// stays as it was.
-pub fn load_sheet<'a>(
-    bytes: &[u8],
-    starts: &'a mut [usize],
-    entries: &'a mut [Entry],
-    sheet: &mut Sheet<'a>,
-) -> Result<(), Fault>
-    ensures answer { result ≡ without_value (loaded bytes.now (length starts.old) (length entries.old)) }
-    ensures sheet { sheet_meaning sheet.new ≡ updated (loaded bytes.now (length starts.old) (length entries.old)) (sheet_meaning sheet.old) (λ m. m) }
-    ensures file { OnOk result (SheetFile bytes.now (sheet_meaning sheet.new)) }
+// The sheet over tables that hold one: of the starts, the first carriers + 1. It is refused as filling is, and never where
+// a load gave the heading and wrote the tables.
+pub fn sheet_over<'a>(
+    heading: Heading,
+    starts: &'a [usize],
+    entries: &'a [Entry],
+) -> Result<Sheet<'a>, Fault>
+    ensures { result_map_both sheet_meaning (λ e. e) result ≡ sheet_in heading starts.now entries.now }
 {
-    let heading = load(bytes, starts, entries)?;
-    sheet.fill(heading, &starts[..heading.carriers + 1], entries)?;
-    Ok(())
+    let front = starts.get(..=heading.carriers).unwrap_or(starts);
+    let mut sheet = Sheet::new();
+    sheet.fill(heading, front, entries)?;
+    Ok(sheet)
 }
 
-// Loads a file of at most 32,768 bytes into tables for 128 carriers and 4,096 entries, and fills the sheet from them. A
-// longer file is refused before any of its bytes is read. Where it is refused, the sheet stays as it was.
-pub fn load_within<'a>(
+// Loads a file of at most 32,768 bytes into tables for 128 carriers and 4,096 entries, and gives its heading. A longer
+// file is refused before any of its bytes is read. Where it is refused, the tables stay as they were. The sheet over the
+// tables then means the file.
+pub fn load_within(
     bytes: &[u8],
-    starts: &'a mut [usize; MOST_STARTS],
-    entries: &'a mut [Entry; MOST_ENTRIES],
-    sheet: &mut Sheet<'a>,
-) -> Result<(), Fault>
-    ensures answer { result ≡ without_value (loaded_within bytes.now) }
-    ensures sheet { sheet_meaning sheet.new ≡ updated (loaded_within bytes.now) (sheet_meaning sheet.old) (λ m. m) }
-    ensures file { OnOk result (SheetFile bytes.now (sheet_meaning sheet.new)) }
+    starts: &mut [usize; MOST_STARTS],
+    entries: &mut [Entry; MOST_ENTRIES],
+) -> Result<Heading, Fault>
+    ensures answer { result ≡ heading_answer (loaded_within bytes.now) }
+    ensures starts { starts.new ≡ updated (loaded_within bytes.now) starts.old (λ m. over starts.old 0 (starts_of m.rows)) }
+    ensures entries { entries.new ≡ updated (loaded_within bytes.now) entries.old (λ m. over entries.old 0 (entries_of m.rows)) }
+    ensures filling { and_then result (λ h. sheet_in h starts.new entries.new) ≡ loaded_within bytes.now }
 {
     if bytes.len() > MOST_BYTES {
         return Err(Fault::bare(Refusal::TooShort));
     }
-    load_sheet(bytes, starts, entries, sheet)
+    load(bytes, starts, entries)
 }

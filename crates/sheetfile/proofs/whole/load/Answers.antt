@@ -1,9 +1,9 @@
-use Rattle.std.proofs.Common.{length, Err, ap, ◌∙◌}
+use Rattle.std.proofs.Common.{length, Ok, Err, ap, ◌∙◌}
 use Rattle.std.proofs.lemmas.Result.{err_from_is_err_and}
 use Rattle.sources.specs.Tables.{entries_of, starts_of}
 use Rattle.sheetfile.specs.Reading.{loaded}
 use Rattle.numbers.specs.Writing.{over}
-use Rattle.sheetfile.proofs.Filling.{loads_exactly}
+use Rattle.sheetfile.proofs.Filling.{loads_exactly, loads_then_fills}
 use Rattle.sheetfile.proofs.Tables.{heading_err, updated_err}
 use Rattle.sheetfile.proofs.whole.load.Goals as goal
 
@@ -16,3 +16,8 @@ returns-in_err-heading-clause-exact c =
     (updated_err v c.in_err-heading.field-0.0 c.args.starts.now (λ m. over c.args.starts.now 0 (starts_of m.rows)) e)
     (updated_err v c.in_err-heading.field-0.0 c.args.entries.now (λ m. over c.args.entries.now 0 (entries_of m.rows)) e)
     c.from_residual.result (p.1 ∙ ap Err p.2 ∙ c.in_err-heading.ensures)
+
+pub returns-clause-filling : goal.returns-clause-filling
+returns-clause-filling c =
+    loads_then_fills c.args.bytes.now c.args.starts.now c.args.entries.now c.type_inv.bytes c.load_surveyed.new.starts c.load_surveyed.new.entries c.load_surveyed.ensures.starts c.load_surveyed.ensures.entries
+    (Ok c.in_ok-heading.heading) c.in_ok-heading.ensures
