@@ -1,5 +1,5 @@
 -- What comes of pairing the carriers and jobs of a sheet file.
-use Rattle.std.specs.Prelude.{◌≡◌, ℕ, ◌+◌, ◌≤◌, List, [], ◌∷◌, length, take, ℤ, pos, ◌-ℤ◌, Some, None, Ok, Err, Option, Result}
+use Rattle.std.specs.Prelude.{◌≡◌, ℕ, ◌+◌, ◌≤◌, List, [], ◌∷◌, length, ℤ, pos, ◌-ℤ◌, Some, None, Ok, Err, Option, Result}
 use Rattle.std.specs.List.{AllByRecursion}
 use Rattle.refusals.specs.declared.Fault.{Fault}
 use Rattle.refusals.specs.declared.Refusal.{Refusal}
@@ -79,10 +79,6 @@ printed (Err e) = refused_line e
 abbrev pub refusal_in : Result (List ℕ) Refusal → Option Refusal
 refusal_in (Ok text) = None
 refusal_in (Err e) = Some e
-
--- So many bytes at the beginning of the buffer, which has them, are this text.
-abbrev pub Holds : List ℕ → ℕ → List ℕ → Type 0
-Holds buffer len text = (len ≤ length buffer) × (take len buffer ≡ text)
 
 -- What standings and counts an auction ended with, or its refusal.
 abbrev pub Ends : Option Tally → Result Counts Refusal → List Standing → Type 0

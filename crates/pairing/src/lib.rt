@@ -2,8 +2,9 @@
 #![tactic(auto)]
 
 ghost use Rattle.std.specs.Prelude.{◌≡◌, ◌≤◌, length};
+ghost use Rattle.numbers.specs.Writing.{over};
 ghost use Rattle.pairing.specs.Listing.{refused_line};
-ghost use Rattle.pairing.specs.Pairs.{AtMost, FilePairsWell, Holds, PairsWell, auctioned, fitted, listed, listed_within, listing_after, printed, put_into, refusal_in, sized};
+ghost use Rattle.pairing.specs.Pairs.{AtMost, FilePairsWell, PairsWell, auctioned, fitted, listed, listed_within, listing_after, printed, put_into, refusal_in, sized};
 
 use crate::auctioning::hold_auction;
 use crate::listing::Ended;
@@ -74,8 +75,10 @@ pub struct Printed {
 }
 
 // Pairs the carriers and jobs of a sheet file, and writes the listing, or one line that tells the refusal.
+// Bytes behind the text are not touched.
 pub fn print_pairs(sheet: &[u8], text: &mut [u8; MOST_TEXT]) -> Printed
-    ensures text { Holds text.new result.len (printed (listed sheet.now)) }
+    ensures len { result.len ≡ length (printed (listed sheet.now)) }
+    ensures text { text.new ≡ over text.old 0 (printed (listed sheet.now)) }
     ensures refusal { result.refusal ≡ refusal_in (listed sheet.now) }
     ensures paired { FilePairsWell sheet.now }
 {
@@ -91,7 +94,8 @@ pub fn print_pairs(sheet: &[u8], text: &mut [u8; MOST_TEXT]) -> Printed
 // Puts the line of a refusal.
 fn put_refused(refusal: Refusal, out: &mut [u8]) -> usize
     requires { 64 ≤ length out.old }
-    ensures { Holds out.new result (refused_line refusal) }
+    ensures len { result ≡ length (refused_line refusal) }
+    ensures after { out.new ≡ over out.old 0 (refused_line refusal) }
 {
     let mut output = Output::new(out);
     output.put(b"refused ");

@@ -1,6 +1,6 @@
 // The listing of standings and counts, put piece by piece.
 ghost use Rattle.std.specs.Prelude.{◌≡◌, ◌+◌, ◌*◌, ◌≤◌, map, length};
-ghost use Rattle.std.specs.List.{splice};
+ghost use Rattle.numbers.specs.Writing.{over};
 ghost use Rattle.sources.specs.Meaning.{row_of};
 ghost use Rattle.auction.specs.Laws.{given_worth, job_served, worth};
 ghost use Rattle.outputs.specs.Puts.{Puts};
@@ -97,7 +97,7 @@ impl<S: Source> Ended<'_, S> {
     // Puts the whole listing, if there is room for it, and gives its length. With no bytes to put it to, it tells the length alone.
     pub(crate) fn put_listing(&self, out: &mut [u8]) -> usize
         ensures len { result ≡ length (listing_of (S.Source.meaning self.now.source.now) self.now.standings.now self.now.counts) }
-        ensures written { result ≤ length out.old → out.new ≡ splice out.old 0 result (listing_of (S.Source.meaning self.now.source.now) self.now.standings.now self.now.counts) }
+        ensures written { result ≤ length out.old → out.new ≡ over out.old 0 (listing_of (S.Source.meaning self.now.source.now) self.now.standings.now self.now.counts) }
         ensures short { result ≤ 8320 }
     {
         let mut output = Output::new(out);
