@@ -3,6 +3,7 @@
 
 ghost use Rattle.std.specs.Prelude.{◌≡◌, ◌≤◌, length};
 ghost use Rattle.numbers.specs.Writing.{over};
+ghost use Rattle.outputs.specs.Puts.{Puts};
 ghost use Rattle.pairing.specs.Listing.{refused_line};
 ghost use Rattle.pairing.specs.Pairs.{AtMost, FilePairsWell, PairsWell, auctioned, fitted, listed, listed_within, listing_after, printed, put_into, refusal_in, sized};
 
@@ -91,15 +92,24 @@ pub fn print_pairs(sheet: &[u8], text: &mut [u8; MOST_TEXT]) -> Printed
     }
 }
 
-// Puts the line of a refusal.
+// Puts the line of a refusal, at the beginning of a buffer.
+#[tactic(auto, using(crate::proofs::Texts::puts_over))]
 fn put_refused(refusal: Refusal, out: &mut [u8]) -> usize
     requires { 64 ≤ length out.old }
     ensures len { result ≡ length (refused_line refusal) }
     ensures after { out.new ≡ over out.old 0 (refused_line refusal) }
 {
     let mut output = Output::new(out);
-    output.put(b"refused ");
-    put_number(&mut output, refusal.number());
-    output.put(b"\n");
+    put_refusal(refusal, &mut output);
     output.len()
+}
+
+// Puts the line of a refusal.
+fn put_refusal(refusal: Refusal, output: &mut Output<'_>)
+    ensures puts { Puts output.old output.new (refused_line refusal) }
+    ensures short { length (refused_line refusal) ≤ 12 }
+{
+    output.put(b"refused ");
+    put_number(output, refusal.number());
+    output.put(b"\n");
 }

@@ -1,4 +1,4 @@
-use Rattle.std.proofs.Common.{rules, length, ap, arith}
+use Rattle.std.proofs.Common.{length, ap, arith}
 use Rattle.std.proofs.lemmas.List.{length-append}
 use Rattle.auction.specs.Laws.{job_served, worth}
 use Rattle.outputs.proofs.Puts.{puts_then}
@@ -14,6 +14,5 @@ returns-clause-written g c room =
     let all = puts_then c.put_lines.ensures.puts c.put_last.ensures.puts in
     let long = length-append (carrier_lines m 0 ended.standings.now) (last_line (worth m (map job_served ended.standings.now)) ended.counts) in
     let counted = all.counted (omega (arith, long, c.put_lines.ensures.short, c.put_last.ensures.short, ended.few, c.new-output.ensures.count)) in
-    let both = puts_over c.new-output.result c.put_last.new.output _ _ _ c.new-output.ensures.count all c.new-output.ensures.bytes (search rules)
-    (omega (arith, room, counted, c.len.ensures, c.new-output.ensures.count, ap length c.new-output.ensures.bytes)) in
-    both.1
+    let there = puts_over all c.new-output.ensures.count (omega (arith, room, counted, c.len.ensures, c.new-output.ensures.count, ap length c.new-output.ensures.bytes)) in
+    grind (arith, there)
