@@ -1,6 +1,6 @@
 -- Pieces that are put one after another.
-use Rattle.std.proofs.Common.{◌≡◌, ℕ, ◌+◌, ◌≤◌, List, [], ◌++◌, length, take, drop, sym, refl, ap, ◌∙◌, subst, arith}
-use Rattle.std.proofs.lemmas.List.{append_assoc, drop_at, drop-drop, length-append, length-take-le, take-append-drop, take_at}
+use Rattle.std.proofs.Common.{◌≡◌, ℕ, ◌+◌, ◌≤◌, List, ◌++◌, length, take, drop, sym, ap, ◌∙◌, subst, arith}
+use Rattle.std.proofs.lemmas.List.{append_assoc, drop_at, drop-drop, length-append, length-take-le, take_at}
 use Rattle.std.specs.List.{splice}
 use Rattle.outputs.specs.Puts.{Puts}
 use Rattle.outputs.specs.declared.Output.{Output}
@@ -19,12 +19,6 @@ splice_then xs ys zs a fits =
     ∙ drop-drop (length zs) (a + length ys) xs ∙ ap (λ m. drop m xs) (omega (arith, length-append ys zs)) in
     ap (λ p. p ++ (zs ++ drop (a + length ys + length zs) (splice xs a (a + length ys) ys))) f ∙ ap (λ q. front ++ (zs ++ q)) d
     ∙ append_assoc (take a xs) ys (zs ++ drop (a + length (ys ++ zs)) xs) ∙ ap (λ q. take a xs ++ q) (sym (append_assoc ys zs (drop (a + length (ys ++ zs)) xs)))
-
--- nothing is put
-pub puts_none : (o : Output) → Puts o o []
-puts_none o =
-    let e : o.count ≡ o.count + 0 = omega arith in
-    record { same = refl; long = refl; counted = λ _. e; placed = λ _. e; written = λ _. sym (ap (λ n. take o.count o.bytes.now ++ drop n o.bytes.now) (sym e) ∙ take-append-drop o.count o.bytes.now) }
 
 -- two pieces, one after the other, are one piece
 pub puts_then : {o p q : Output} {x y : List ℕ} → Puts o p x → Puts p q y → Puts o q (x ++ y)

@@ -7,7 +7,7 @@ use Rattle.sources.specs.Meaning.{Rising, worth_in}
 use Rattle.std.specs.List.{find, AllByRecursion}
 use Rattle.std.specs.Option.{MatchOption, option_map, unwrap_or}
 use Rattle.sources.proofs.Reading.{rising_apart}
-use Rattle.rows.specs.Totals.{job_in, worth_at, worths, Best, BestIn}
+use Rattle.rows.specs.Totals.{job_in, worth_at, worths}
 
 module _ (row : List (ℕ × ℕ)) (k job worth : ℕ) (l : k < length row) (is : get_or row k (0, 0) ≡ (job, worth)) where
   job_is : job_in row k ≡ job
@@ -22,9 +22,6 @@ pub record BestOfFirst (row : List (ℕ × ℕ)) (k job worth : ℕ) : Type 0 wh
   pub there : 0 < worth → (i : ℕ) × (i < k) × (get_or row i (0, 0) ≡ (job, worth))
   pub greatest : (i : ℕ) → i < k → worth_at row i ≤ worth
   pub smallest : 0 < worth → (i : ℕ) → i < k → worth_at row i ≡ worth → job ≤ job_in row i
-
-pub best_of_none : (row : List (ℕ × ℕ)) → BestOfFirst row 0 0 0
-best_of_none row = record { there = λ p. absurd (omega arith); greatest = λ i l. absurd (omega arith); smallest = λ p i l. absurd (omega arith) }
 
 module _ (row : List (ℕ × ℕ)) (k job worth job' worth' : ℕ) (l : k < length row) (is : get_or row k (0, 0) ≡ (job', worth')) (best : BestOfFirst row k job worth) where
   pub takes : worth < worth' → BestOfFirst row (k + 1) job' worth'
@@ -48,18 +45,6 @@ module _ (row : List (ℕ × ℕ)) (k job worth job' worth' : ℕ) (l : k < leng
             let first : job_in row t.0 ≡ job = ap (λ (e : ℕ × ℕ). e.0) t.2 in
             omega (arith, rising_apart 0 row rises t.0 k t.1 l, first));
       }
-
-module _ (row : List (ℕ × ℕ)) (k job worth : ℕ) (all : k ≡ length row) (best : BestOfFirst row k job worth) where
-  pub best_is : 0 < worth → Best row job worth
-  best_is p = let t = best.there p in record {
-    there = (t.0, omega (arith, t.1), t.2);
-    some = p;
-    greatest = λ i l. best.greatest i (omega arith);
-    smallest = λ i l. best.smallest p i (omega arith);
-  }
-
-  pub no_best : worth ≤ 0 → BestIn row None
-  no_best z i l = omega (arith, best.greatest i (omega arith))
 
 -- the worth of the first entry of a job, or 0 where it has none
 pub worth_found : (row : List (ℕ × ℕ)) (j : ℕ) → unwrap_or (option_map (λ (e : ℕ × ℕ). e.1) (find (λ (e : ℕ × ℕ). eqb e.0 j) row)) 0 ≡ worth_in row j
@@ -114,10 +99,6 @@ module _ (row seen left after : List (ℕ × ℕ)) (job worth : ℕ) (best : Opt
     first = subst (λ n. BestOfFirst row n (entry_or_none best).0 (entry_or_none best).1) longer (keeps row (length seen) (entry_or_none best).0 (entry_or_none best).1 job worth inside is_next so_far.first rises no_more);
     worth = so_far.worth;
   }
-
-best_of_all : (row : List (ℕ × ℕ)) (best : Option (ℕ × ℕ)) → BestOfFirst row (length row) (entry_or_none best).0 (entry_or_none best).1 → IsWorth best → BestIn row best
-best_of_all row None b w = no_best row (length row) 0 0 refl b (omega arith)
-best_of_all row (Some (job, worth)) b w = best_is row (length row) job worth refl b w
 
 -- what a `map_or` with 0 makes of the best so far
 pub most_is : {P : ℕ × ℕ → Type 0} (best : Option (ℕ × ℕ)) (most : ℕ) → MatchOption best (most ≡ 0) P → ((e : ℕ × ℕ) → P e → most ≡ e.1) → most ≡ (entry_or_none best).1

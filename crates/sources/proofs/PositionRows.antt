@@ -24,9 +24,6 @@ module _ (carriers jobs : List Place) (reach i : ℕ) where
   row_len_lem l = sym (ap (option_map length) (the_row l) ∙ ap Some (length-map-range_with_len (λ j. (j, worth_between reach (get_or carriers i no_place) (get_or jobs j no_place))) 0 (length jobs)))
 
   module _ (k : ℕ) where
-    pub no_carrier : length carriers ≤ i → None ≡ entry_at (positions_of carriers jobs reach) i k
-    no_carrier l = sym (ap (λ o. chosen o (λ row. slice_get row k)) (no_row l))
-
     pub no_job : i < length carriers → length jobs ≤ k → None ≡ entry_at (positions_of carriers jobs reach) i k
     no_job l m =
         sym (ap (λ o. chosen o (λ row. slice_get row k)) (the_row l) ∙ nth_not_made (λ j. (j, worth_between reach (get_or carriers i no_place) (get_or jobs j no_place))) (length jobs) k m)

@@ -1,5 +1,5 @@
 -- What a reader of any source may rely on: its rows, entry by entry.
-use Rattle.std.proofs.Common.{◌≡◌, ℕ, zero, suc, ◌+◌, ◌<◌, ◌≤◌, List, [], ◌∷◌, length, get_or, drop, Some, None, Option, sym, refl, ◌∙◌, subst, add-one, drop-cons, arith}
+use Rattle.std.proofs.Common.{◌≡◌, ℕ, zero, suc, ◌+◌, ◌<◌, ◌≤◌, List, [], ◌∷◌, length, get_or, drop, Some, None, Option, sym, refl, ◌∙◌, add-one, drop-cons, arith}
 use Rattle.std.specs.Option.{MatchOption, option_map, unwrap_or}
 use Rattle.std.specs.List.{slice_get, AllByRecursion}
 use Rattle.sources.specs.Meaning.{Meaning, Sound, Rising, chosen, row_len, entry_at, row_of}
@@ -10,11 +10,6 @@ len_some : (rows : List (List (ℕ × ℕ))) (i n : ℕ) → option_map length (
 len_some [] i n e = let z : ◌≡◌ {A = ℕ} 0 1 = cc in absurd (omega arith)
 len_some (row ∷ rows) zero n e = cc
 len_some (row ∷ rows) (suc i) n e = len_some rows i n e
-
-len_none : (rows : List (List (ℕ × ℕ))) (i : ℕ) → option_map length (slice_get rows i) ≡ None → get_or rows i [] ≡ []
-len_none [] i e = refl
-len_none (row ∷ rows) zero e = let z : ◌≡◌ {A = ℕ} 0 1 = cc in absurd (omega arith)
-len_none (row ∷ rows) (suc i) e = len_none rows i e
 
 length_read : (rows : List (List (ℕ × ℕ))) (i : ℕ) → unwrap_or (option_map length (slice_get rows i)) 0 ≡ length (get_or rows i [])
 length_read [] i = refl
@@ -27,9 +22,6 @@ row_len_or_zero m i = length_read m.rows i
 
 pub row_len_some : (m : Meaning) (i n : ℕ) → Some n ≡ row_len m i → n ≡ length (row_of m i)
 row_len_some m i n e = len_some m.rows i n (sym e)
-
-pub row_len_none : (m : Meaning) (i : ℕ) → None ≡ row_len m i → row_of m i ≡ []
-row_len_none m i e = len_none m.rows i (sym e)
 
 row_in : (rows : List (List (ℕ × ℕ))) (i n : ℕ) → option_map length (slice_get rows i) ≡ Some n → slice_get rows i ≡ Some (get_or rows i [])
 row_in [] i n e = let z : ◌≡◌ {A = ℕ} 0 1 = cc in absurd (omega arith)
@@ -96,18 +88,6 @@ module _ (m : Meaning) (s : Sound m) (i : ℕ) where
 
   pub row_within : AllByRecursion (λ e. e.1 ≤ m.ceiling) (row_of m i)
   row_within = all_row (AllByRecursion (λ e. e.1 ≤ m.ceiling)) tt m.rows i s.within
-
-all_nth : (P : ℕ × ℕ → Type 0) (row : List (ℕ × ℕ)) (k : ℕ) (e : ℕ × ℕ) → slice_get row k ≡ Some e → AllByRecursion P row → P e
-all_nth P [] k e h a = let z : ◌≡◌ {A = ℕ} 0 1 = cc in absurd (omega arith)
-all_nth P (x ∷ row) zero e h a = let q : x ≡ e = cc in subst P q a.0
-all_nth P (x ∷ row) (suc k) e h a = all_nth P row k e h a.1
-
-module _ (m : Meaning) (s : Sound m) (i k job worth : ℕ) (read : Some (job, worth) ≡ entry_at m i k) where
-  pub entry_known : job < m.jobs
-  entry_known = all_nth (λ e. e.0 < m.jobs) (row_of m i) k (job, worth) (entry_some m i k (job, worth) read) (row_known m s i)
-
-  pub entry_within : worth ≤ m.ceiling
-  entry_within = all_nth (λ e. e.1 ≤ m.ceiling) (row_of m i) k (job, worth) (entry_some m i k (job, worth) read) (row_within m s i)
 
 -- a row is no longer than there are jobs
 rising_length : (jobs low : ℕ) (row : List (ℕ × ℕ)) → Rising low row → AllByRecursion (λ e. e.0 < jobs) row → low ≤ jobs → low + length row ≤ jobs

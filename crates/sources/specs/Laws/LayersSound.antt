@@ -1,6 +1,6 @@
 -- What every layer keeps, and that it is sound over a sound source.
 use Rattle.std.specs.Prelude.{◌≡◌, ℕ, zero, suc, ◌+◌, ◌^◌, ◌<◌, ◌≤◌, List, [], ◌∷◌, map, length, Some, None, Option, nat_lt, refl}
-use Rattle.std.proofs.Common.{sym, ap, ◌∙◌, arith, mul-le-mul_left}
+use Rattle.std.proofs.Common.{ap, ◌∙◌, arith, mul-le-mul_left}
 use Rattle.std.specs.Option.{option_map}
 use Rattle.std.specs.List.{slice_get, AllByRecursion}
 use Rattle.std.proofs.lemmas.Bool.{cond_both}
@@ -28,13 +28,6 @@ module _ (h : ℕ → ℕ) (c : ℕ) where
 
   pub entry_at-revalued : (m : Meaning) (i k : ℕ) → entry_at (revalued h c m) i k ≡ option_map (revalued_entry h) (entry_at m i k)
   entry_at-revalued m i k = ap (λ o. chosen o (λ row. slice_get row k)) (nth_map (revalued_row h) m.rows i) ∙ nth_in k (slice_get m.rows i)
-
-  -- what the layer reads where nothing, or an entry, was read below
-  pub reads_none : (m : Meaning) (i k : ℕ) → None ≡ entry_at m i k → None ≡ entry_at (revalued h c m) i k
-  reads_none m i k e = ap (option_map (revalued_entry h)) e ∙ sym (entry_at-revalued m i k)
-
-  pub reads_some : (m : Meaning) (i k job worth w : ℕ) → Some (job, worth) ≡ entry_at m i k → w ≡ h worth → Some (job, w) ≡ entry_at (revalued h c m) i k
-  reads_some m i k job worth w e is = ap (λ v. Some (job, v)) is ∙ ap (option_map (revalued_entry h)) e ∙ sym (entry_at-revalued m i k)
 
   rising_in : (low : ℕ) (row : List (ℕ × ℕ)) → Rising low row → Rising low (revalued_row h row)
   rising_in low [] r = tt

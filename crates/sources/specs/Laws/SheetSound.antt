@@ -1,37 +1,20 @@
 -- What a sheet means, from its rows, and that it is sound.
 use Rattle.std.specs.Prelude.{◌≡◌, ℕ, zero, suc, ◌+◌, ◌-◌, ◌^◌, ◌<◌, ◌≤◌, Bool, true, false, cond, ◌&&◌, ◌||◌, List, [], ◌∷◌, map, length, get_or, drop, is_some, Some, None, Decides, Option, ◌==◌, ◌≢◌, nat_eq, nat_le, nat_lt, slice_index, slice_index_or, refl}
 use Rattle.std.proofs.Common.{sym, ap, subst, ◌∙◌, ⊎_elim, arith, add-zero}
-use Rattle.std.specs.Option.{option_map}
-use Rattle.std.specs.List.{slice_get, HoldsAt, AllByRecursion}
+use Rattle.std.specs.List.{HoldsAt, AllByRecursion}
 use Rattle.std.proofs.lemmas.List.{length-map, length-take, length-drop, get_or-take, get_or-drop}
 use Rattle.std.proofs.ByRecursion.{All-map, All-from_get_or}
 use Rattle.std.proofs.lemmas.List.FromFn.{length-map-range_with_len}
 use Rattle.std.proofs.lemmas.Bool.{true≢false, leb-true, ltb-true, eqb-true, and_parts, or_cases, cases_lt}
 use Rattle.std.proofs.lemmas.Bool.Decides.{Decides-by_or, Decides-eqb}
-use Rattle.sources.specs.Meaning.{Sound, Rising, chosen}
+use Rattle.sources.specs.Meaning.{Sound, Rising}
 use Rattle.sources.specs.declared.form.Entry.{Entry}
 use Rattle.sources.specs.declared.form.Heading.{Heading}
 use Rattle.refusals.specs.declared.Refusal.{Refusal}
 use Rattle.refusals.specs.declared.Refusal.TheVariants.{JobOutOfOrder, WorthOutside}
 use Rattle.sources.specs.Sheets.{within_limits, blank, starts_good, last_of, has_start, no_entry, job_at, worth_at, in_order, refusal_at, or_else, first_refusal, listed, entry_refusal, pair_of, sheet_row, sheet_rows, sheet_of}
 use Rattle.sources.specs.Laws.Indexed.{all_made}
-use Rattle.sources.specs.Laws.LayersSound.{nth_map}
 use Rattle.sources.specs.Laws.Starts.{Started, started, mono}
-
-length_in : (o : Option (List Entry)) → option_map (λ row. length row) o ≡ option_map length (option_map (map pair_of) o)
-length_in None = refl
-length_in (Some row) = ap Some (sym (length-map row pair_of))
-
-pub reads_len : (rows : List (List Entry)) (i : ℕ) (o : Option (List Entry)) → o ≡ slice_get rows i → option_map (λ row. length row) o ≡ option_map length (slice_get (map (map pair_of) rows) i)
-reads_len rows i o e = ap (option_map (λ row. length row)) e ∙ length_in (slice_get rows i) ∙ ap (option_map length) (sym (nth_map (map pair_of) rows i))
-
-nth_in : (k : ℕ) (o : Option (List Entry)) → option_map pair_of (chosen o (λ row. slice_get row k)) ≡ chosen (option_map (map pair_of) o) (λ row. slice_get row k)
-nth_in k None = refl
-nth_in k (Some row) = sym (nth_map pair_of row k)
-
-pub reads_entry : (rows : List (List Entry)) (i k : ℕ) (o : Option (List Entry)) → o ≡ slice_get rows i → option_map pair_of (chosen o (λ row. slice_get row k)) ≡ chosen (slice_get (map (map pair_of) rows) i) (λ row. slice_get row k)
-reads_entry rows i k o e =
-    ap (λ p. option_map pair_of (chosen p (λ row. slice_get row k))) e ∙ nth_in k (slice_get rows i) ∙ ap (λ p. chosen p (λ row. slice_get row k)) (sym (nth_map (map pair_of) rows i))
 
 -- jobs that rise from place to place rise along the row
 rising_from : (low : ℕ) (es : List Entry) → (0 < length es → low ≤ job_at es 0) → ((k : ℕ) → suc k < length es → job_at es k < job_at es (suc k)) → Rising low (map pair_of es)
