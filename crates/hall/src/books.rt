@@ -17,14 +17,14 @@ struct Lot {
     holder: Option<usize>,
 }
 
-// Arrays, of which the first `noted.jobs` and `noted.carriers` are used: no heap is used here, since C calls it.
+// `lots` has a place for each job and `standings` one for each carrier, of which the first `noted.jobs` and `noted.carriers` are
+// used. Arrays: no heap is used here, since C calls it.
 #[derive(Drop)]
 pub struct Books {
     // What start noted of the source.
     noted: Heading,
     step: u64,
     lanes: usize,
-    // The first of each are the jobs' and the carriers'.
     lots: [Lot; MOST_JOBS],
     standings: [Standing; MOST_CARRIERS],
     counts: Counts,

@@ -46,7 +46,7 @@ fn in_order(starts: &[usize], entries: &[Entry], k: usize) -> bool
 fn entry_refusal(heading: Heading, starts: &[usize], entries: &[Entry]) -> Option<Refusal>
     ensures { result ≡ entry_refusal heading starts.now entries.now }
 {
-    // A rule of the project keeps this a loop over the entry table with its index.
+    // A loop over the entry table with its index: a form that the project keeps (docs/DECISIONS.md).
     for (k, entry) in entries.iter().enumerate() {
         if entry.job >= heading.jobs || !in_order(starts, entries, k) {
             return Some(Refusal::JobOutOfOrder);

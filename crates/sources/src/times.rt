@@ -7,7 +7,8 @@ use crate::source::Source;
 
 const HIGHEST_WORTH: u64 = 1 << 60;
 
-// A struct of its own beside `Floor`: a rule of the project wants each layer as a plain value with its own impl.
+// A struct of its own beside `Floor`: each layer is a plain value that holds the source below it, a form that the project
+// keeps (docs/DECISIONS.md).
 #[derive(Drop)]
 pub struct Times<S> {
     pub below: S,

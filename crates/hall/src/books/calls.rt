@@ -1,5 +1,5 @@
-// The calls, on books and the source that they were started for. Source and books are lent side by side: the struct of both is the
-// hall, and a second one of two borrows would say the same once more.
+// The calls, on books and the source that they were started for. Source and books are lent side by side: a struct of the two
+// borrows would be a second hall.
 ghost use Rattle.std.specs.Prelude.{◌≡◌, ℕ, ◌^◌, ◌<◌, ◌≤◌, false, length, take, is_ok, Some, None, IfOk, OnOk, slice_index};
 ghost use Rattle.std.specs.Result.{result_map_both};
 ghost use Rattle.sources.specs.Meaning.{Meaning, row_of};
@@ -57,7 +57,8 @@ fn look_on<S: Source>(
 }
 
 // What a carrier's standing and the call together lead to: the bid that the call begins, carries on or finds ready to be judged.
-// Rules of the project: one standing is lent to be changed, and the match is on it and the act together.
+// One standing is lent to be changed, and the match is on it and the act together: forms that the project keeps
+// (docs/DECISIONS.md).
 fn respond<S: Source>(
     source: &S,
     lots: &[Lot; MOST_JOBS],
