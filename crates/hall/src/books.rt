@@ -17,8 +17,8 @@ struct Lot {
     holder: Option<usize>,
 }
 
-// `lots` has a place for each job and `standings` one for each carrier, of which the first `noted.jobs` and `noted.carriers` are
-// used. Arrays: no heap is used here, since C calls it.
+// Of `lots` the first `noted.jobs` are used, and of `standings` the first `noted.carriers`. Arrays: no heap is used here, since C
+// calls it.
 #[derive(Drop)]
 pub struct Books {
     // What start noted of the source.
