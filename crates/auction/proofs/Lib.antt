@@ -18,5 +18,6 @@ pub mod Queues
 pub mod Steps
 pub mod Started
 pub mod CallsKeep
+pub mod MadeOf
 pub mod Undisturbed
 pub mod Props

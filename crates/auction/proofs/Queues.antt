@@ -1,5 +1,5 @@
 -- Line and flight while standings change.
-use Rattle.std.proofs.Common.{◌≡◌, ℕ, zero, suc, ◌+◌, ◌*◌, ◌<◌, ◌≤◌, Bool, true, false, eqb, List, [], ◌∷◌, ◌++◌, length, get_or, set, count_by, sym, refl, ap, ◌∙◌, subst, ⊎_elim, arith}
+use Rattle.std.proofs.Common.{◌≡◌, ℕ, zero, suc, ◌+◌, ◌-◌, ◌<◌, ◌≤◌, Bool, true, false, eqb, List, [], ◌∷◌, ◌++◌, length, get_or, set, count_by, sym, refl, ap, ◌∙◌, subst, ⊎_elim, arith}
 use Rattle.std.specs.List.{AllByRecursion}
 use Rattle.std.proofs.lemmas.Bool.{cases_lt, cases_eq, cases_Bool, both_ways, eq-eqb, ne_eqb}
 use Rattle.std.proofs.lemmas.List.{get_or-set_same, get_or-set_other, get_or_past, append-nil, append_assoc, length-append}
@@ -11,7 +11,7 @@ use Rattle.auction.specs.declared.standing.InFlight.{InFlight}
 use Rattle.auction.specs.declared.standing.Standing.{Standing}
 use Rattle.auction.specs.declared.standing.Standing.TheVariants.{Waiting, Bidding, Served, Out}
 use Rattle.auction.specs.Tally.{is_waiting, is_bidding, is_served}
-use Rattle.auction.specs.Runs.{in_flight, gathered}
+use Rattle.auction.specs.Runs.{in_flight, looks_for, gathered}
 use Rattle.auction.specs.InOrder.{times_in, Due, InOrder}
 use Rattle.auction.proofs.Counted.{one, one_most, count_set}
 
@@ -152,7 +152,7 @@ module _ (m : Meaning) (lanes : ℕ) where
   unflown_stay ss i s flight z = All-weaker (Due m lanes ss) (Due m lanes (set ss i s)) (λ f q. due_stays m lanes ss i s f (unflown ss i z f q) q) flight
 
   -- A waiting carrier is summoned.
-  pub joins : (i n : ℕ) (line : List ℕ) (flight : List InFlight) (ss : List Standing) (b : Bid) → InOrder m lanes (i ∷ line) flight ss → length (row_of m i) ≤ b.looked + n * lanes →
+  pub joins : (i n : ℕ) (line : List ℕ) (flight : List InFlight) (ss : List Standing) (b : Bid) → InOrder m lanes (i ∷ line) flight ss → n ≡ looks_for lanes (length (row_of m i) - b.looked) →
       InOrder m lanes line (flight ++ in_flight i n ∷ []) (set ss i (Bidding b))
   joins i n line flight ss b law d = record {
     waits = changes (λ s. one (is_waiting s)) ss i (Bidding b) inside (λ k. times_in (λ z. z) k (i ∷ line)) (λ k. times_in (λ z. z) k line) law.waits
@@ -200,7 +200,7 @@ module _ (m : Meaning) (lanes : ℕ) where
         (alone ∙ sym (ap one e)) (λ k ne. sym (times_later {X = InFlight} (λ g. g.carrier) k f flight ne))
 
     -- The flight's first goes to its end, with another bid.
-    pub rotates : (n : ℕ) (b : Bid) → length (row_of m f.carrier) ≤ b.looked + n * lanes → InOrder m lanes line (flight ++ in_flight f.carrier n ∷ []) (set ss f.carrier (Bidding b))
+    pub rotates : (n : ℕ) (b : Bid) → n ≡ looks_for lanes (length (row_of m f.carrier) - b.looked) → InOrder m lanes line (flight ++ in_flight f.carrier n ∷ []) (set ss f.carrier (Bidding b))
     rotates n b d = record {
       waits = changes (λ z. one (is_waiting z)) ss f.carrier (Bidding b) inside (λ k. times_in (λ z. z) k line) (λ k. times_in (λ z. z) k line) law.waits not_in_line (λ k ne. refl);
       bids = changes (λ z. one (is_bidding z)) ss f.carrier (Bidding b) inside (λ k. times_in {X = InFlight} (λ g. g.carrier) k (f ∷ flight)) (λ k. times_in {X = InFlight} (λ g. g.carrier) k (flight ++ in_flight f.carrier n ∷ [])) law.bids

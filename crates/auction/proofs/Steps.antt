@@ -1,14 +1,13 @@
 -- The steps of a run: line and flight stay in order, no count falls, each summons, award, stale bid and out takes a step, and a run is spent only if each step of the budget was made.
-use Rattle.std.proofs.Common.{◌≡◌, ℕ, zero, suc, ◌+◌, ◌-◌, ◌*◌, ◌<◌, ◌≤◌, Bool, true, false, cond, eqb, ltb, leb, ◌⊎◌, List, [], ◌∷◌, ◌++◌, length, get_or, take, drop, set, pos, Some, None, Ok, Err, fold, count_by, Option, Result, sym, refl, ap, ◌∙◌, subst, inl, inr, ⊎_elim, mod-lt, div-add-mod', arith}
+use Rattle.std.proofs.Common.{◌≡◌, ℕ, zero, suc, ◌+◌, ◌-◌, ◌/◌, ◌<◌, ◌≤◌, min, Bool, true, false, cond, eqb, ltb, leb, ◌⊎◌, List, [], ◌∷◌, ◌++◌, length, get_or, set, pos, Some, None, Ok, Err, count_by, Option, Result, sym, refl, ap, ◌∙◌, subst, inl, inr, ⊎_elim, arith}
 use lib.Signed.{lt_z}
 use Rattle.std.specs.Option.{option_to_list}
 use Rattle.std.specs.List.{AllByRecursion}
-use Rattle.std.proofs.lemmas.Bool.{cases_lt, cond_both, cond-true, eq-eqb, lt-ltb, leb-true, le-leb, false≢true}
-use Rattle.std.proofs.lemmas.List.{set-get_or, length-take, length-drop, append-nil}
+use Rattle.std.proofs.lemmas.Bool.{cases_lt, cond_both, cond-true, cond-false, eq-eqb, lt-ltb, le-leb, lt-leb, false≢true}
+use Rattle.std.proofs.lemmas.List.{append-nil}
 use Rattle.std.proofs.lemmas.List.Sums.{sum_by-cons}
 use Rattle.sources.specs.Meaning.{Meaning, Sound, row_of}
 use Rattle.refusals.specs.declared.Refusal.{Refusal}
-use Rattle.refusals.specs.declared.Refusal.TheVariants.{RowLookedAt, RowNotLookedAt}
 use Rattle.auction.specs.declared.standing.Best.{Best}
 use Rattle.auction.specs.declared.standing.Bid.{Bid}
 use Rattle.auction.specs.declared.standing.Counts.{Counts}
@@ -22,12 +21,13 @@ use Rattle.auction.specs.declared.standing.Verdict.TheVariants.{Out as GoesOut, 
 use Rattle.auction.specs.declared.standing.Ending.{Ending}
 use Rattle.auction.specs.declared.standing.Ending.TheVariants.{Done, Spent}
 use Rattle.auction.specs.Tally.{Tally, holder_at, standing_at, is_waiting, is_bidding, is_served}
-use Rattle.auction.specs.Bids.{fresh, weighed, looked_on, offer, judged_best, best_worth}
+use Rattle.auction.specs.Bids.{fresh, looked_on, offer, judged_best, best_worth}
 use Rattle.auction.specs.Rules.{looked_all, bid_after, bid_at, taken, counted, bids, called, freed, carried_out, verdict_in, verdict_from, settle_answer, ended, settled}
 use Rattle.auction.specs.Consistent.{Consistent}
 use Rattle.auction.specs.Runs.{RunState, in_flight, looks_for, gathered, if_waiting, if_bidding, beginning, waits_after, joins_line, first_acts, step_by, one_step, many_steps, ending_of, run_report, Reports}
 use Rattle.auction.specs.InOrder.{times_in, Due, InOrder, Ordered, Grown}
-use Rattle.auction.proofs.Weighed.{weighed_looked}
+use Rattle.std.proofs.Math.Nat.{div-eq_of_lt, add-div_right}
+use Rattle.auction.proofs.Gathering.{looks_on}
 use Rattle.auction.proofs.Counted.{one}
 use Rattle.auction.proofs.Matching.{holder_served}
 use Rattle.auction.proofs.Keeping.{call_consistent, settle_consistent}
@@ -136,28 +136,24 @@ module _ (m : Meaning) where
   steps_cover depth (suc k) r =
       let a = step_covers depth r in let b = steps_cover depth k (one_step m depth r) in (omega (arith, a.0, b.0), omega (arith, a.1, b.1))
 
--- ---- what a look goes through
+-- ---- the looks that go through n entries
 
-folded_looked : (ps : List ℕ) (es : List (ℕ × ℕ)) (b : Bid) → (fold (weighed ps) b es).looked ≡ b.looked + length es
-folded_looked ps [] b = omega arith
-folded_looked ps (e ∷ es) b = let r = folded_looked ps es (weighed ps b e) in let w = weighed_looked ps b e in omega (arith, r, w)
+-- Where no entry is left, none; otherwise a look takes one off.
+looks_none : (lanes n : ℕ) → 1 ≤ lanes → n ≡ 0 → looks_for lanes n ≡ 0
+looks_none lanes n h e = div-eq_of_lt (omega (arith, h, e))
 
--- One look takes one off the looks left.
-looks_on : (lanes : ℕ) (ps : List ℕ) (row : List (ℕ × ℕ)) (b : Bid) (left : ℕ) → length row ≤ b.looked + suc left * lanes →
-    length row ≤ (looked_on lanes ps row b).looked + left * lanes
-looks_on lanes ps row b left h =
-    let f = folded_looked ps (take lanes (drop b.looked row)) b in
-    let a = length-take lanes (drop b.looked row) in
-    let d = length-drop b.looked row in
-    let p : suc left * lanes ≡ lanes + left * lanes = omega arith in
-    omega (arith, f, a, d, p, h)
-
--- The looks for n entries go through n entries.
-looks_enough : (lanes n : ℕ) → 1 ≤ lanes → n ≤ looks_for lanes n * lanes
-looks_enough lanes n h =
-    let a = div-add-mod' (n + (lanes - 1)) lanes in
-    let b = mod-lt (n + (lanes - 1)) {m = lanes} h in
-    omega (arith, a, b, h)
+looks_some : (lanes n : ℕ) → 1 ≤ lanes → 1 ≤ n → looks_for lanes n ≡ looks_for lanes (n - min lanes n) + 1
+looks_some lanes n h some =
+    ⊎_elim
+    (λ l. let a = add-div_right (n - 1) h in
+    let b : (n - 1) / lanes ≡ 0 = div-eq_of_lt (omega arith) in
+    let c = looks_none lanes (n - min lanes n) h (omega (arith, l)) in
+    let e : (n + (lanes - 1)) / lanes ≡ ((n - 1) + lanes) / lanes = ap (λ z. z / lanes) (omega arith) in
+    omega (arith, a, b, c, e))
+    (λ l. let a = add-div_right ((n - min lanes n) + (lanes - 1)) h in
+    let e : (n + (lanes - 1)) / lanes ≡ (((n - min lanes n) + (lanes - 1)) + lanes) / lanes = ap (λ z. z / lanes) (omega (arith, l)) in
+    omega (arith, a, e))
+    (cases_lt n lanes)
 
 -- ---- line and flight stay in order
 
@@ -184,40 +180,51 @@ module _ (m : Meaning) where
       cond-true {A = Result Bid Refusal} (ltb i m.carriers) _ _ (lt-ltb i m.carriers l) ∙ ap (λ z. bid_after t.lanes t.prices (row_of m i) z act) e
 
   module _ (t : Tally) (con : Consistent m.carriers m.jobs m.ceiling t) where
-    summons : (i : ℕ) (line : List ℕ) (flight : List InFlight) → InTally (i ∷ line) flight t →
-        InTally line (flight ++ in_flight i (looks_for t.lanes (length (row_of m i))) ∷ []) (called m i Summon t)
-    summons i line flight law =
-        subst (λ r. InTally line (flight ++ in_flight i n ∷ []) (taken r (bids Summon i) t)) (sym (bid_at_lem i Summon t Waiting among is))
-        (joins m t.lanes i n line flight t.standings fresh law (omega (arith, looks_enough t.lanes (length (row_of m i)) con.limits.some_lanes)))
-      where
-        n : ℕ
-        n = looks_for t.lanes (length (row_of m i))
+    -- Who is in line waits, so that a summons is accepted.
+    module _ (i : ℕ) (line : List ℕ) (flight : List InFlight) (law : InTally (i ∷ line) flight t) where
+      waits : 1 ≤ one (is_waiting (standing_at t i))
+      waits = omega (arith, times_first (λ z. z) i line, law.waits i)
 
-        waits : 1 ≤ one (is_waiting (standing_at t i))
-        waits = omega (arith, times_first (λ z. z) i line, law.waits i)
+      pub summon_taken : bid_at m i Summon t ≡ Ok fresh
+      summon_taken = bid_at_lem i Summon t Waiting (omega (arith, within is_waiting refl t.standings i waits, con.standings_sized)) (is_waiting_lem (standing_at t i) waits)
 
-        is : standing_at t i ≡ Waiting
-        is = is_waiting_lem (standing_at t i) waits
+      summons : InTally line (flight ++ in_flight i (looks_for t.lanes (length (row_of m i))) ∷ []) (called m i Summon t)
+      summons =
+          subst (λ r. InTally line (flight ++ in_flight i (looks_for t.lanes (length (row_of m i))) ∷ []) (taken r (bids Summon i) t)) (sym summon_taken)
+          (joins m t.lanes i (looks_for t.lanes (length (row_of m i))) line flight t.standings fresh law (ap (looks_for t.lanes) (omega arith)))
 
-        among : i < m.carriers
-        among = omega (arith, within is_waiting refl t.standings i waits, con.standings_sized)
-
+    -- Who is first in flight has a bid that has entries left to look at exactly if it has looks left, so that a look or a settle is accepted.
     module _ (f : InFlight) (line : List ℕ) (flight : List InFlight) (law : InTally line (f ∷ flight) t) where
-      due : Due m t.lanes t.standings f
+      abbrev due : Due m t.lanes t.standings f
       due = law.due.0
+
+      abbrev row : List (ℕ × ℕ)
+      row = row_of m f.carrier
 
       among : f.carrier < m.carriers
       among = omega (arith, bidding_within t.standings f.carrier due.0 due.1, con.standings_sized)
 
+      abbrev further : Bid
+      further = looked_on t.lanes t.prices row due.0
+
+      entries_left : (left : ℕ) → f.looks_left ≡ suc left → 1 ≤ length row - due.0.looked
+      entries_left left e =
+          ⊎_elim (λ l. let z = looks_none t.lanes (length row - due.0.looked) con.limits.some_lanes (omega (arith, l)) in absurd (omega (arith, e, due.2, z))) (λ l. l)
+          (cases_lt (length row - due.0.looked) 1)
+
+      pub look_taken : (left : ℕ) → f.looks_left ≡ suc left → bid_at m f.carrier Look t ≡ Ok further
+      look_taken left e =
+          bid_at_lem f.carrier Look t (Bidding due.0) among due.1
+          ∙ cond-false {A = Result Bid Refusal} (looked_all row due.0) _ _ (lt-leb (length row) due.0.looked (let l = entries_left left e in omega (arith, l)))
+
       looks : (left : ℕ) → f.looks_left ≡ suc left → InTally line (flight ++ in_flight f.carrier left ∷ []) (called m f.carrier Look t)
       looks left e =
-          subst (λ r. InTally line (flight ++ in_flight f.carrier left ∷ []) (taken r (bids Look f.carrier) t)) (sym (bid_at_lem f.carrier Look t (Bidding due.0) among due.1))
-          (cond_both {A = Result Bid Refusal} (looked_all (row_of m f.carrier) due.0) (Err RowLookedAt) (Ok (looked_on t.lanes t.prices (row_of m f.carrier) due.0))
-          (λ r. InTally line (flight ++ in_flight f.carrier left ∷ []) (taken r (bids Look f.carrier) t))
-          (λ q. subst (InOrder m t.lanes line (flight ++ in_flight f.carrier left ∷ [])) (ap (set t.standings f.carrier) (sym due.1) ∙ set-get_or t.standings f.carrier Out)
-          (rotates m t.lanes f line flight t.standings law left due.0 (let a = leb-true (length (row_of m f.carrier)) due.0.looked q in omega (arith, a))))
-          (λ q. rotates m t.lanes f line flight t.standings law left (looked_on t.lanes t.prices (row_of m f.carrier) due.0)
-          (looks_on t.lanes t.prices (row_of m f.carrier) due.0 left (subst (λ z. length (row_of m f.carrier) ≤ due.0.looked + z * t.lanes) e due.2))))
+          subst (λ r. InTally line (flight ++ in_flight f.carrier left ∷ []) (taken r (bids Look f.carrier) t)) (sym (look_taken left e))
+          (rotates m t.lanes f line flight t.standings law left further
+          (let n = length row - due.0.looked in
+          let q : looks_for t.lanes (n - min t.lanes n) ≡ looks_for t.lanes (length row - further.looked) =
+          ap (looks_for t.lanes) (omega (arith, (looks_on t.prices t.lanes row due.0).further)) in
+          omega (arith, looks_some t.lanes n con.limits.some_lanes (entries_left left e), e, due.2, q)))
 
       gone : (s : Standing) → is_waiting s ≡ false → is_bidding s ≡ false → InOrder m t.lanes (line ++ []) flight (set t.standings f.carrier s)
       gone s w b = subst (λ z. InOrder m t.lanes z flight (set t.standings f.carrier s)) (sym (append-nil line)) (leaves m t.lanes f line flight t.standings law s w b)
@@ -234,16 +241,18 @@ module _ (m : Meaning) where
               leaves m t.lanes f (line ++ k ∷ []) flight (set t.standings k Waiting)
               (displaces m t.lanes k line (f ∷ flight) t.standings (s k refl) law) (Served (record { job = a.job; worth = w })) refl refl
 
+      pub settle_taken : f.looks_left ≡ 0 → bid_at m f.carrier Settle t ≡ Ok due.0
+      settle_taken e =
+          bid_at_lem f.carrier Settle t (Bidding due.0) among due.1
+          ∙ cond-true {A = Result Bid Refusal} (looked_all row due.0) _ _
+          (le-leb (length row) due.0.looked
+          (⊎_elim (λ l. let s = looks_some t.lanes (length row - due.0.looked) con.limits.some_lanes l in absurd (omega (arith, e, due.2, s))) (λ l. omega (arith, l))
+          (cases_lt 0 (length row - due.0.looked))))
+
       settles : f.looks_left ≡ 0 → InTally (line ++ joins_line f.carrier (settle_answer f.carrier m (Some t))) flight (settled m f.carrier t)
       settles e =
-          subst (λ r. InTally (line ++ joins_line f.carrier (verdict_from t r)) flight (taken r (ended f.carrier) t)) (sym ready)
+          subst (λ r. InTally (line ++ joins_line f.carrier (verdict_from t r)) flight (taken r (ended f.carrier) t)) (sym (settle_taken e))
           (ends (best_worth due.0.best) (verdict_in t due.0) (judged_former t due.0.runner_up due.0.best))
-        where
-          ready : bid_at m f.carrier Settle t ≡ Ok due.0
-          ready =
-              bid_at_lem f.carrier Settle t (Bidding due.0) among due.1
-              ∙ cond-true {A = Result Bid Refusal} (looked_all (row_of m f.carrier) due.0) (Ok due.0) (Err RowNotLookedAt)
-              (le-leb (length (row_of m f.carrier)) due.0.looked (let z : f.looks_left * t.lanes ≡ 0 = ap (λ x. x * t.lanes) e ∙ omega arith in omega (arith, due.2, z)))
 
       first_ordered : (left n : ℕ) → f.looks_left ≡ left → Ordered m (first_acts m f.carrier left line flight t n)
       first_ordered zero n e = settles e
@@ -287,7 +296,7 @@ module _ (m : Meaning) (lanes : ℕ) where
   bidding_there k i (Served h) n = refl
   bidding_there k i Out n = refl
 
-  module _ (pace : 1 ≤ lanes) (all : List Standing) where
+  module _ (all : List Standing) where
     next : (i : ℕ) (s : Standing) (ss : List Standing) → ((k : ℕ) → get_or all (i + k) Out ≡ get_or (s ∷ ss) k Out) → (k : ℕ) → get_or all (suc i + k) Out ≡ get_or ss k Out
     next i s ss h k = ap (λ z. get_or all z Out) (omega arith) ∙ h (suc k)
 
@@ -295,18 +304,18 @@ module _ (m : Meaning) (lanes : ℕ) where
     flight_due i [] h = tt
     flight_due i (Waiting ∷ ss) h = flight_due (suc i) ss (next i Waiting ss h)
     flight_due i (Bidding b ∷ ss) h =
-        ((b, ap (λ z. get_or all z Out) (omega arith) ∙ h 0, let a = looks_enough lanes (length (row_of m i) - b.looked) pace in omega (arith, a)), flight_due (suc i) ss (next i (Bidding b) ss h))
+        ((b, ap (λ z. get_or all z Out) (omega arith) ∙ h 0, refl), flight_due (suc i) ss (next i (Bidding b) ss h))
     flight_due i (Served x ∷ ss) h = flight_due (suc i) ss (next i (Served x) ss h)
     flight_due i (Out ∷ ss) h = flight_due (suc i) ss (next i Out ss h)
 
-pub begins_ordered : (m : Meaning) (t : Tally) → 1 ≤ t.lanes → Ordered m (beginning m t)
+pub begins_ordered : (m : Meaning) (t : Tally) → Ordered m (beginning m t)
 unfolding beginning
-begins_ordered m t p = record {
+begins_ordered m t = record {
   waits = λ k. ap (λ n. times_in (λ z. z) n (gathered if_waiting 0 t.standings)) (omega arith)
       ∙ gathered_at if_waiting (λ z. z) is_waiting refl waiting_here waiting_there 0 t.standings k;
   bids = λ k. ap (λ n. times_in {X = InFlight} (λ f. f.carrier) n (gathered (if_bidding m t.lanes) 0 t.standings)) (omega arith)
       ∙ gathered_at (if_bidding m t.lanes) (λ f. f.carrier) is_bidding refl (bidding_here m t.lanes) (bidding_there m t.lanes) 0 t.standings k;
-  due = flight_due m t.lanes p t.standings 0 t.standings (λ k. ap (λ z. get_or t.standings z Out) (omega arith));
+  due = flight_due m t.lanes t.standings 0 t.standings (λ k. ap (λ z. get_or t.standings z Out) (omega arith));
 }
 
 -- ---- what follows from the order
@@ -387,6 +396,9 @@ module _ (m : Meaning) where
   idle_done r law l =
       ending_is r law ∙ cond-true {A = Ending} (eqb (length r.line + length r.flight) 0) Done Spent (eq-eqb (length r.line + length r.flight) 0 (omega (arith, l)))
 
+  pub step_consistent : Sound m → (depth : ℕ) (r : RunState) → Consistent m.carriers m.jobs m.ceiling r.tally → Consistent m.carriers m.jobs m.ceiling (one_step m depth r).tally
+  step_consistent sound = step_holds m (Consistent m.carriers m.jobs m.ceiling) (λ t i act c. call_consistent m sound t c i act) (λ t i c. settle_consistent m t c i)
+
   module _ (sound : Sound m) (depth : ℕ) (deep : 1 ≤ depth) where
     all_or_done : (n : ℕ) (r : RunState) → Consistent m.carriers m.jobs m.ceiling r.tally → Ordered m r →
         ((many_steps m depth n r).steps ≡ r.steps + n) ⊎ (ending_of (many_steps m depth n r).tally ≡ Done)
@@ -396,9 +408,7 @@ module _ (m : Meaning) where
         ⊎_elim
         (λ busy. let s = step_counted depth r deep busy in
         ⊎_elim (λ e. inl (omega (arith, e, s))) inr
-        (all_or_done n (one_step m depth r)
-        (step_holds m (Consistent m.carriers m.jobs m.ceiling) (λ t i act c. call_consistent m sound t c i act) (λ t i c. settle_consistent m t c i) depth r con)
-        (step_ordered m depth r con law)))
+        (all_or_done n (one_step m depth r) (step_consistent sound depth r con) (step_ordered m depth r con law)))
         (λ idle. inr (ap (λ q. ending_of q.tally) (idle_steps depth (suc n) r.line r.flight r.tally r.steps idle) ∙ idle_done r law idle))
         (cases_lt 0 (length r.line + length r.flight))
 

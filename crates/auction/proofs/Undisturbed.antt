@@ -1,5 +1,5 @@
 -- A bid that no award came between is never stale: prices move by awards alone, so the best of such a bid costs what it did when it was seen.
-use Rattle.std.proofs.Common.{◌≡◌, ℕ, ◌<◌, ◌≤◌, Bool, true, false, ltb, leb, List, [], ◌∷◌, ◌++◌, pos, is_ok, Some, None, Ok, Err, Option, Result, sym, refl, ap, ◌∙◌, subst, arith}
+use Rattle.std.proofs.Common.{◌≡◌, ℕ, ◌<◌, ◌≤◌, Bool, true, false, ltb, leb, List, [], ◌∷◌, pos, is_ok, Some, None, Ok, Err, Option, Result, sym, refl, ap, ◌∙◌, subst, arith}
 use lib.Signed.{lt_z}
 use Rattle.std.proofs.lemmas.Bool.{both_ways, cond_both, ltb-true, or_parts, false≢true}
 use Rattle.refusals.specs.declared.Refusal.{Refusal}
@@ -17,7 +17,7 @@ use Rattle.auction.specs.declared.call.Call.{Call}
 use Rattle.auction.specs.Tally.{Tally, price_at, standing_at, is_bidding}
 use Rattle.auction.specs.Bids.{offer, judged_best, best_worth}
 use Rattle.auction.specs.Rules.{looked_all, bid_after, bid_at, taken, stands, counted, counted_out, counted_stale, bids, called, carried_out, verdict_in, verdict_from, settle_answer, settled}
-use Rattle.auction.specs.Calls.{tally_by, tally_from, tally_after, is_start, has_start}
+use Rattle.auction.specs.Calls.{tally_by, tally_from, is_start, has_start}
 use Rattle.auction.specs.Consistent.{BidSound, StandingSound, best_risen, is_risen}
 use Rattle.auction.specs.Undisturbed.{NeverStale}
 use Rattle.sources.proofs.Reading.{row_known, row_within}
@@ -137,17 +137,8 @@ idle_unrisen ps (Bidding b) e = absurd (both_ways true e refl)
 idle_unrisen ps (Served h) e = refl
 idle_unrisen ps Out e = refl
 
-tally_splits : (m : Meaning) (o : Option Tally) (xs ys : List Call) → tally_from m o (xs ++ ys) ≡ tally_from m (tally_from m o xs) ys
-unfolding tally_from
-tally_splits m o [] ys = refl
-tally_splits m o (x ∷ xs) ys = tally_splits m (tally_by m o x) xs ys
-
-pub never_stale : (m : Meaning) → Sound m → (calls : List Call) → NeverStale m calls
-never_stale m sound calls before behind i t t' split was idle none now same =
-    let begun : Holds (Both m sound t.counts.awards i) (tally_after m before) =
-    subst (Holds (Both m sound t.counts.awards i)) (sym was)
-    (invariant_after m sound before t was, record { fewest = omega arith; unmoved = λ _. idle_unrisen t.prices (standing_at t i) idle }) in
-    let after : Both m sound t.counts.awards i t' =
-    subst (Holds (Both m sound t.counts.awards i)) (sym (ap (tally_after m) split ∙ tally_splits m None before behind) ∙ now)
-    (calls_fresh m sound t.counts.awards i (tally_after m before) behind none begun) in
+pub never_stale : (m : Meaning) → Sound m → NeverStale m
+never_stale m sound before behind i t t' was idle none now same =
+    let begun : Both m sound t.counts.awards i t = (invariant_after m sound before t was, record { fewest = omega arith; unmoved = λ _. idle_unrisen t.prices (standing_at t i) idle }) in
+    let after : Both m sound t.counts.awards i t' = subst (Holds (Both m sound t.counts.awards i)) now (calls_fresh m sound t.counts.awards i (Some t) behind none begun) in
     not_stale m sound t.counts.awards i t' after.0 (after.1.unmoved same)

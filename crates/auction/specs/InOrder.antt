@@ -1,5 +1,5 @@
 -- What holds of line and flight during a run: each waiting carrier is once in the line, each bidding one once in the flight, and nobody else is in either.
-use Rattle.std.specs.Prelude.{◌≡◌, ℕ, ◌+◌, ◌*◌, ◌≤◌, cond, List, length, count_by, nat_eq, slice_index_or}
+use Rattle.std.specs.Prelude.{◌≡◌, ℕ, ◌-◌, ◌≤◌, cond, List, length, count_by, nat_eq, slice_index_or}
 use Rattle.std.specs.List.{AllByRecursion}
 use Rattle.sources.specs.Meaning.{Meaning, row_of}
 use Rattle.auction.specs.declared.standing.Bid.{Bid}
@@ -8,15 +8,15 @@ use Rattle.auction.specs.declared.standing.InFlight.{InFlight}
 use Rattle.auction.specs.declared.standing.Standing.{Standing}
 use Rattle.auction.specs.declared.standing.Standing.TheVariants.{Bidding, Out}
 use Rattle.auction.specs.Tally.{is_waiting, is_bidding}
-use Rattle.auction.specs.Runs.{RunState}
+use Rattle.auction.specs.Runs.{RunState, looks_for}
 
 -- How many elements have the number k.
 abbrev pub times_in : {X : Type 0} → (X → ℕ) → ℕ → List X → ℕ
 times_in number k xs = count_by (λ x. nat_eq (number x) k) xs
 
--- The looks left go through what the bid has not looked at.
+-- The looks left are those that go through what the bid has not looked at.
 abbrev pub Due : Meaning → ℕ → List Standing → InFlight → Type 0
-Due m lanes ss f = (b : Bid) × (slice_index_or ss f.carrier Out ≡ Bidding b) × (length (row_of m f.carrier) ≤ b.looked + f.looks_left * lanes)
+Due m lanes ss f = (b : Bid) × (slice_index_or ss f.carrier Out ≡ Bidding b) × (f.looks_left ≡ looks_for lanes (length (row_of m f.carrier) - b.looked))
 
 pub record InOrder (m : Meaning) (lanes : ℕ) (line : List ℕ) (flight : List InFlight) (ss : List Standing) : Type 0 where
   pub waits : (k : ℕ) → times_in (λ i. i) k line ≡ cond (is_waiting (slice_index_or ss k Out)) 1 0

@@ -7,5 +7,6 @@ pub mod Shown
 pub mod Runs
 pub mod InOrder
 pub mod Calls
+pub mod MadeOf
 pub mod Laws
 pub mod Undisturbed

@@ -48,7 +48,7 @@ if_bidding m lanes i (Bidding b) = in_flight i (looks_for lanes (length (row_of 
 if_bidding m lanes i (Served h) = []
 if_bidding m lanes i Out = []
 
--- The flight begins with the bidding carriers and the line with the waiting ones, both ascending.
+-- At first everybody who waits is in line and everybody who bids is in flight, both in the order of the carrier numbers.
 unfoldable pub beginning : Meaning → Tally → RunState
 beginning m t = record { line = gathered if_waiting 0 t.standings; flight = gathered (if_bidding m t.lanes) 0 t.standings; tally = t; steps = 0 }
 
@@ -62,14 +62,14 @@ abbrev pub joins_line : ℕ → Result Verdict Refusal → List ℕ
 joins_line i (Ok v) = option_to_list (waits_after i v)
 joins_line i (Err e) = []
 
--- The flight's first is taken: with looks left it looks and goes to the flight's end; without, it settles, and a carrier that then waits joins the line's end.
+-- The carrier first in flight acts: it looks if it has looks left, and is then last in flight; or else it settles, and whoever waits because of that is last in line.
 abbrev pub first_acts : Meaning → ℕ → ℕ → List ℕ → List InFlight → Tally → ℕ → RunState
 first_acts m i zero line flight t n =
     record { line = line ++ joins_line i (settle_answer i m (Some t)); flight = flight; tally = settled m i t; steps = n + 1 }
 first_acts m i (suc left) line flight t n =
     record { line = line; flight = flight ++ in_flight i left ∷ []; tally = called m i Look t; steps = n + 1 }
 
--- If the flight is shorter than the depth, which is the test, and the line isn't empty, the line's first is summoned and joins the flight's end.
+-- The test is whether the depth leaves room in flight. If so, the carrier first in line is summoned, and is then last in flight; or else, or with nobody in line, the carrier first in flight acts.
 abbrev pub step_by : Meaning → Bool → List ℕ → List InFlight → Tally → ℕ → RunState
 step_by m true [] [] t n = record { line = []; flight = []; tally = t; steps = n }
 step_by m true [] (f ∷ flight) t n = first_acts m f.carrier f.looks_left [] flight t n

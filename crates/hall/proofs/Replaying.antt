@@ -9,6 +9,7 @@ use Rattle.auction.specs.declared.call.Answer.{Answer}
 use Rattle.auction.specs.Tally.{Tally}
 use Rattle.auction.specs.Calls.{answer_to, tally_by, tally_from, tally_after, answers_from}
 use Rattle.auction.proofs.CallsKeep.{laws_hold}
+use Rattle.auction.proofs.MadeOf.{runs_made}
 use Rattle.auction.proofs.Undisturbed.{never_stale}
 use Rattle.auction.proofs.Started.{started_exactly}
 use Rattle.hall.specs.declared.books.Books.{Books}
@@ -47,7 +48,8 @@ replay_done m s calls i before after b l l' t a d =
       tallied = t';
       started = ap is_some t' ∙ started_exactly m calls;
       lawful = λ q h. laws_hold m s calls q (sym t' ∙ h);
-      undisturbed = never_stale m s calls;
+      made = runs_made m s;
+      undisturbed = never_stale m s;
     }
 
 -- ---- the same, where the hall's source is known to be the one that was given

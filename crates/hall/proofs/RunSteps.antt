@@ -18,6 +18,8 @@ use Rattle.auction.specs.Runs.{RunState, gathered, if_waiting, if_bidding, begin
 use Rattle.auction.specs.InOrder.{Ordered, Grown}
 use Rattle.sources.proofs.Reading.{row_length}
 use Rattle.auction.proofs.Queues.{gathered_more, gathered_short}
+use Rattle.auction.specs.MadeOf.{MadeOf}
+use Rattle.auction.proofs.MadeOf.{run_made}
 use Rattle.auction.proofs.Steps.{room_enough, ending_is, begins_ordered, step_ordered, steps_grow, idle_steps, run_reports}
 use Rattle.rings.specs.Held.{held}
 use Rattle.hall.specs.declared.books.Books.{Books}
@@ -138,7 +140,7 @@ unfolding beginning
 same_start m b q e f = same_state (state_of b q 0) _ e f refl refl
 
 pub start_ordered : (m : Meaning) (b : Books) (q : Queues) → state_of b q 0 ≡ beginning m (tally_in b) → Ordered m (state_of b q 0)
-start_ordered m b q e = subst (Ordered m) (sym e) (begins_ordered m (tally_in b) (consistent_in b).limits.some_lanes)
+start_ordered m b q e = subst (Ordered m) (sym e) (begins_ordered m (tally_in b))
 
 ending_told : (m : Meaning) (b : Books) (q : Queues) → Ordered m (state_of b q 0) → (e : Ending) →
     e ≡ cond (eqb (length (held q.line)) 0 && eqb (length (held q.flight)) 0) Done Spent → e ≡ ending_of (tally_in b)
@@ -168,7 +170,10 @@ module _ (m : Meaning) (sound : Sound m) (depth budget : ℕ) (old new : Books) 
   run_reported deep =
       subst (Reports budget (tally_in old) (tally_in new)) (sym report_is)
       (subst (λ z. Reports budget (tally_in old) z.tally (run_report (tally_in old) (many_steps m depth budget (beginning m (tally_in old))))) (sym made)
-      (run_reports m sound depth deep budget (beginning m (tally_in old)) refl (consistent_for m old was) (begins_ordered m (tally_in old) (consistent_in old).limits.some_lanes)))
+      (run_reports m sound depth deep budget (beginning m (tally_in old)) refl (consistent_for m old was) (begins_ordered m (tally_in old))))
+
+  pub run_is_made : MadeOf m (tally_in old) (tally_in new) report.steps
+  run_is_made = subst (λ z. MadeOf m (tally_in old) z.tally z.steps) (sym made) (run_made m sound depth budget (tally_in old) (consistent_for m old was))
 
 -- No count has fallen.
 pub run_grown : (m : Meaning) (depth budget : ℕ) (old new : Books) (q q' : Queues) (steps : ℕ) →

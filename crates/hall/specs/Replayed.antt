@@ -7,6 +7,7 @@ use Rattle.auction.specs.declared.call.Answer.{Answer}
 use Rattle.auction.specs.Tally.{Tally}
 use Rattle.auction.specs.Calls.{tally_after, answers_from, has_start}
 use Rattle.auction.specs.Laws.{AuctionLaws}
+use Rattle.auction.specs.MadeOf.{RunsMade}
 use Rattle.auction.specs.Undisturbed.{NeverStale}
 use Rattle.hall.specs.declared.books.Books.{Books}
 use Rattle.hall.specs.InBooks.{tally_of}
@@ -18,5 +19,7 @@ pub record Replayed (m : Meaning) (calls : List Call) (before after : List (Resu
   -- It was started exactly if a start of the list was accepted.
   pub started : is_some (tally_of b) ≡ has_start m calls
   pub lawful : (t : Tally) → tally_of b ≡ Some t → AuctionLaws m t
-  -- A bid that no award came between is never stale.
-  pub undisturbed : NeverStale m calls
+  -- Each run, of this list or another, is made of summonses, looks and settles that are accepted.
+  pub made : RunsMade m
+  -- A bid that no award came between is never stale: after this list or another, as one that has what a run is made of in the run's place.
+  pub undisturbed : NeverStale m

@@ -6,6 +6,7 @@ ghost use Rattle.hall.specs.Ruled.{Ruled};
 ghost use Rattle.auction.specs.Looks.{Looks};
 ghost use Rattle.auction.specs.Rules.{start_answer, start_tally, summon_answer, summon_tally, look_answer, look_tally, settle_answer, settle_tally};
 ghost use Rattle.auction.specs.Runs.{Reports, run_answer, run_tally};
+ghost use Rattle.auction.specs.MadeOf.{MadeOf};
 ghost use Rattle.auction.specs.Calls.{price_answer, holder_answer, standing_answer, worth_answer, counts_answer, answer_to, tally_by};
 
 use crate::books::Books;
@@ -88,6 +89,7 @@ impl<S: Source> Hall<S> {
     pub fn run(&mut self, depth: usize, budget: u64) -> Result<Report, Refusal>
         ensures ruled { Ruled (run_answer depth budget) (run_tally depth budget) (S.meaning self.old.source) self.old.books self.new.books result }
         ensures reported { IfOk result (λ p. Between (λ t u. Reports budget t u p) (tally_of self.old.books) (tally_of self.new.books)) }
+        ensures made { IfOk result (λ p. Between (λ t u. MadeOf (S.meaning self.old.source) t u p.steps) (tally_of self.old.books) (tally_of self.new.books)) }
         ensures kept { self.new.source ≡ self.old.source }
     {
         self.books

@@ -3,6 +3,7 @@ ghost use Rattle.std.specs.Prelude.{◌≡◌, ◌+◌, ◌<◌, ◌≤◌, true
 ghost use Rattle.rings.specs.Held.{held};
 ghost use Rattle.auction.specs.Runs.{looks_for, since, beginning, waits_after, first_acts, step_by, one_step, many_steps, Reports, run_answer, run_tally};
 ghost use Rattle.auction.specs.InOrder.{Ordered, Grown};
+ghost use Rattle.auction.specs.MadeOf.{MadeOf};
 ghost use Rattle.hall.specs.InBooks.{NotedOf, tally_in};
 ghost use Rattle.hall.specs.Ruled.{Ruled};
 ghost use Rattle.hall.specs.RunSteps.{state_of, Became};
@@ -50,7 +51,7 @@ fn waits_after(carrier: usize, verdict: Verdict) -> Option<usize>
 }
 
 impl Books {
-    // Summons the line's first, which joins the flight's end.
+    // Summons a carrier that was first in line, and is then last in flight.
     fn summon_first<S: Source>(&mut self, source: &S, carrier: usize, queues: &mut Queues<'_>)
         requires noted { NotedOf (S.meaning source.now) self.old }
         requires place { length (held queues.old.flight) < 128 }
@@ -61,7 +62,7 @@ impl Books {
         queues.join_flight(carrier, looks_left);
     }
 
-    // The flight's first is taken: with looks left it looks and goes to the flight's end; without, it settles, and a carrier that then waits joins the line's end.
+    // A carrier that was first in flight acts: it looks if it has looks left, and is then last in flight; or else it settles, and whoever waits because of that is last in line.
     fn first_acts<S: Source>(&mut self, source: &S, first: InFlight, queues: &mut Queues<'_>)
         requires noted { NotedOf (S.meaning source.now) self.old }
         requires line_place { length (held queues.old.line) < 128 }
@@ -80,7 +81,7 @@ impl Books {
         }
     }
 
-    // One step: if the flight is shorter than the depth and the line isn't empty, the line's first is summoned; otherwise the flight's first is taken.
+    // One step: the carrier first in line is summoned, if there is one and the depth leaves room in flight; or else the carrier first in flight acts.
     fn step<S: Source>(&mut self, source: &S, depth: usize, queues: &mut Queues<'_>)
         requires noted { NotedOf (S.meaning source.now) self.old }
         requires ordered { Ordered (S.meaning source.now) (state_of self.old queues.old 0) }
@@ -95,7 +96,7 @@ impl Books {
         }
     }
 
-    // The flight begins with the bidding carriers and the line with the waiting ones, both ascending.
+    // Puts everybody who waits in line and everybody who bids in flight, both in the order of the carrier numbers.
     fn begin<S: Source>(&self, source: &S, queues: &mut Queues<'_>)
         requires noted { NotedOf (S.meaning source.now) self.now }
         requires nobody_waits { held queues.old.line ≡ [] }
@@ -150,6 +151,7 @@ impl Books {
         ensures noted { NotedOf (S.meaning source.now) self.new }
         ensures ruled { Ruled (run_answer depth budget) (run_tally depth budget) (S.meaning source.now) (Some self.old) (Some self.new) result }
         ensures reported { IfOk result (λ p. Reports budget (tally_in self.old) (tally_in self.new) p) }
+        ensures made { IfOk result (λ p. MadeOf (S.meaning source.now) (tally_in self.old) (tally_in self.new) p.steps) }
     {
         if !(1..=128).contains(&depth) {
             return Err(Refusal::DepthOutside);
