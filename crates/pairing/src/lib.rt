@@ -13,10 +13,9 @@ use crate::putting::put_number;
 use auction::standing::Standing;
 use outputs::Output;
 use refusals::Refusal;
-use sheetfile::whole::{MOST_ENTRIES, MOST_STARTS, load_within};
+use sheetfile::whole::{MOST_ENTRIES, MOST_STARTS, load_within, sheet_over};
 use sources::checks::MOST_CARRIERS;
 use sources::form::Entry;
-use sources::sheet::Sheet;
 use sources::source::Source;
 
 mod auctioning;
@@ -38,8 +37,8 @@ pub fn list_pairs(sheet: &[u8], out: &mut [u8]) -> Result<usize, Refusal>
     // Tables of a fixed size, here and below: no heap is used, since C calls it.
     let mut starts = [0usize; MOST_STARTS];
     let mut entries = [Entry { job: 0, worth: 0 }; MOST_ENTRIES];
-    let mut source = Sheet::new();
-    load_within(sheet, &mut starts, &mut entries, &mut source).map_err(|fault| fault.refusal)?;
+    let heading = load_within(sheet, &mut starts, &mut entries).map_err(|fault| fault.refusal)?;
+    let source = sheet_over(heading, &starts, &entries).map_err(|fault| fault.refusal)?;
     list_source(&source, out)
 }
 
