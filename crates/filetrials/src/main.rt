@@ -8,10 +8,9 @@ use grids::groups::push_number;
 use refusals::{Fault, Refusal};
 use sheetfile::loader::Bare;
 use sheetfile::rewriting::rewrite;
-use sheetfile::whole::load;
+use sheetfile::whole::{load, sheet_over};
 use sources::checks::MOST_CARRIERS;
 use sources::form::{Entry, Heading};
-use sources::sheet::Sheet;
 use std::alloc::{AllocError, Global};
 use std::collections::BTreeMap;
 use std::fmt;
@@ -187,20 +186,7 @@ impl fmt::Display for Tally {
     }
 }
 
-// Fills a sheet from tables that were loaded, and gives the heading.
-fn filled<'a>(
-    heading: Heading,
-    starts: &'a [usize],
-    entries: &'a [Entry],
-) -> Result<Heading, Fault> {
-    let front = starts
-        .get(0..heading.carriers.saturating_add(1))
-        .ok_or(Fault::bare(Refusal::TooShort))?;
-    Sheet::new().fill(heading, front, entries)?;
-    Ok(heading)
-}
-
-// Loads a file state by state, and fills a sheet from it.
+// Loads a file state by state, and takes the sheet over the tables.
 fn load_by_states(
     bytes: &[u8],
     starts: &mut [usize],
@@ -214,12 +200,13 @@ fn load_by_states(
             Err(fault) => return Err(fault),
         }
     }
-    let closed = loader.close()?;
-    filled(closed.heading(), starts, entries)
+    let heading = loader.close()?.heading();
+    sheet_over(heading, starts, entries)?;
+    Ok(heading)
 }
 
 // Whether a file comes to the same as a whole and state by state: the same heading and tables, or the same refusal at
-// the same place.
+// the same place. Refused as a whole, it leaves the tables as they were.
 fn agrees(bytes: &[u8]) -> bool {
     let mut starts = STARTS;
     let mut entries = ENTRIES;
@@ -227,12 +214,15 @@ fn agrees(bytes: &[u8]) -> bool {
     let mut entries_by_states = ENTRIES;
     let whole = load(bytes, &mut starts, &mut entries);
     let by_states = load_by_states(bytes, &mut starts_by_states, &mut entries_by_states);
-    whole == by_states
-        && (whole.is_err() || (starts == starts_by_states && entries == entries_by_states))
+    let right = match whole {
+        Ok(_) => starts == starts_by_states && entries == entries_by_states,
+        Err(_) => starts == STARTS && entries == ENTRIES,
+    };
+    right && whole == by_states
 }
 
 // Loads a file and writes it again to so many bytes of the buffer. Gives the answer, and whether the buffer then begins
-// with the file; where it is refused, whether the tables and the buffer stayed as they were.
+// with the file and is as it was behind it; where it is refused, whether the tables and the buffer stayed as they were.
 fn write_again(bytes: &[u8], room: usize) -> (Result<usize, Fault>, bool) {
     let mut starts = STARTS;
     let mut entries = ENTRIES;
@@ -244,7 +234,7 @@ fn write_again(bytes: &[u8], room: usize) -> (Result<usize, Fault>, bool) {
         &mut out[..room.min(OUT.len())],
     );
     let right = match answer {
-        Ok(len) => out.get(0..len) == Some(bytes),
+        Ok(len) => out.get(0..len) == Some(bytes) && out.get(len..) == OUT.get(len..),
         Err(_) => starts == STARTS && entries == ENTRIES && out == OUT,
     };
     (answer, right)

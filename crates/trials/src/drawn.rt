@@ -41,20 +41,29 @@ fn draw_question(draw: &mut Draw, carrier: usize, job: usize) -> Call {
     }
 }
 
+// A random number below some, or sometimes a limit or the number above it.
+fn draw_near(draw: &mut Draw, some: u64, limit: u64) -> u64 {
+    if draw.below(16) == 0 {
+        limit.saturating_add(draw.below(2))
+    } else {
+        draw.below(some)
+    }
+}
+
 // A random call, with numbers that are mostly good.
 fn draw_call(draw: &mut Draw, grid: &Grid) -> Call {
     let carrier = draw.below((grid.carriers as u64).saturating_add(1)) as usize;
     let job = draw.below((grid.jobs as u64).saturating_add(1)) as usize;
     match draw.below(18) {
         0 => Call::Start {
-            step: draw.below(4),
-            lanes: draw.below(5) as usize,
+            step: draw_near(draw, 4, 1 << 36),
+            lanes: draw_near(draw, 5, 32) as usize,
         },
         1..=4 => Call::Summon(carrier),
         5..=9 => Call::Look(carrier),
         10..=13 => Call::Settle(carrier),
         14 => Call::Run {
-            depth: draw.below(5) as usize,
+            depth: draw_near(draw, 5, 128) as usize,
             budget: draw.below(30),
         },
         _ => draw_question(draw, carrier, job),

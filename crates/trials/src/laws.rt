@@ -1,7 +1,7 @@
 // What has to hold of a call, of its answer, and of what the hall tells after it.
 use crate::seen::{Seen, Terms, Trouble, check};
 use auction::call::{Answer, Call};
-use auction::standing::{Act, Award, Best, Bid, Held, Standing, Verdict};
+use auction::standing::{Act, Award, Best, Bid, Ending, Held, Report, Standing, Verdict};
 use hall::hall::Hall;
 use refusals::Refusal;
 use sources::source::Source;
@@ -158,13 +158,19 @@ fn may_be_stale(before: &Seen, carrier: usize, best: Best) -> bool {
     net_now != best.net && !undisturbed
 }
 
-// What is bid is the price seen plus the best net, minus the runner-up, plus the step.
-fn is_paid_right(before: &Seen, bid: Bid, best: Best, award: Award) -> bool {
+// A job is awarded for a best net above 0. It is the best job, it costs more than before, its former holder is displaced, and what is
+// paid is the price seen plus the best net, minus the runner-up, plus the step.
+fn is_award_right(before: &Seen, bid: Bid, best: Best, award: Award) -> bool {
     let seen = signed(best.worth).saturating_sub(best.net);
     let paid = signed(award.price).saturating_add(signed(bid.runner_up));
-    paid == seen
-        .saturating_add(best.net.max(0))
-        .saturating_add(signed(before.step))
+    let due = seen
+        .saturating_add(best.net)
+        .saturating_add(signed(before.step));
+    best.net > 0
+        && award.job == best.job
+        && award.price > before.price(best.job)
+        && before.served_with.get(best.job) == Some(&award.displaced)
+        && paid == due
 }
 
 // The laws of a settle that ended a bid so. `before` is what the hall told just before it. A bid without a best job ends in an out.
@@ -176,10 +182,53 @@ fn check_settle(before: &Seen, carrier: usize, verdict: Verdict) -> Result<(), T
         return check(verdict == Verdict::Out);
     };
     match verdict {
-        Verdict::Out => Ok(()),
+        Verdict::Out => check(best.net <= 0),
         Verdict::Stale => check(may_be_stale(before, carrier, best)),
-        Verdict::Awarded(award) => check(is_paid_right(before, bid, best, award)),
+        Verdict::Awarded(award) => check(is_award_right(before, bid, best, award)),
     }
+}
+
+// ---- runs
+
+// Whether nobody waits or bids.
+fn is_over(terms: &Terms, seen: &Seen) -> bool {
+    seen.standings.iter().take(terms.grid.carriers).all(|standing| matches!(
+        standing,
+        Standing::Served(_) | Standing::Out
+    ))
+}
+
+// What one count, and what a run tells of it, make after the run.
+fn adds_up(before: u64, told: u64, after: u64) -> bool {
+    before.checked_add(told) == Some(after)
+}
+
+// A run is done exactly if nobody waits or bids after it, and spent only if its steps equal the budget. It counts what the hall's counts
+// moved by, and each took a step of its own.
+fn is_report_right(
+    terms: &Terms,
+    before: &Seen,
+    after: &Seen,
+    budget: u64,
+    report: Report,
+) -> bool {
+    let Report {
+        steps,
+        counts: told,
+        ending,
+    } = report;
+    let ended = told
+        .awards
+        .saturating_add(told.stales)
+        .saturating_add(told.outs);
+    let (old, new) = (before.counts, after.counts);
+    (ending == Ending::Done) == is_over(terms, after)
+        && (steps == budget || (ending == Ending::Done && steps < budget))
+        && ended.saturating_add(told.summonses) <= steps
+        && adds_up(old.summonses, told.summonses, new.summonses)
+        && adds_up(old.awards, told.awards, new.awards)
+        && adds_up(old.stales, told.stales, new.stales)
+        && adds_up(old.outs, told.outs, new.outs)
 }
 
 // ---- a call
@@ -234,6 +283,9 @@ pub(crate) fn check_call<S: Source>(
     }
     let seen = Seen::ask(hall, terms, &begun)?;
     check(seen == begun || (answer.is_ok() && may_alter(call)))?;
+    if let (Call::Run { budget, .. }, Ok(Answer::Ran(report))) = (call, answer) {
+        check(is_report_right(terms, &begun, &seen, budget, report))?;
+    }
     check_nets(terms, &seen)?;
     check(counts_hold(terms, &seen) && rivals_hold(terms, &seen))?;
     Ok(Some(seen))
