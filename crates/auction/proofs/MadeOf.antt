@@ -10,12 +10,12 @@ use Rattle.auction.specs.declared.standing.Act.TheVariants.{Summon, Look, Settle
 use Rattle.auction.specs.declared.standing.Bid.{Bid}
 use Rattle.auction.specs.declared.standing.InFlight.{InFlight}
 use Rattle.auction.specs.declared.standing.Report.{Report}
+use Rattle.auction.specs.declared.call.Answer.TheVariants.{Settled}
 use Rattle.auction.specs.Tally.{Tally}
 use Rattle.auction.specs.Rules.{between, bid_at, success_of, verdict_from}
 use Rattle.auction.specs.Consistent.{Consistent}
 use Rattle.auction.specs.Runs.{RunState, beginning, first_acts, step_by, one_step, many_steps, run_report, ran}
 use Rattle.auction.specs.InOrder.{InOrder, Ordered}
-use Rattle.auction.specs.declared.call.Answer.TheVariants.{Settled}
 use Rattle.auction.specs.Calls.{told, accepted, answer_to, tally_by, tally_from, answers_from}
 use Rattle.auction.specs.MadeOf.{act_call, calls_of, MadeOf, RunsMade}
 use Rattle.auction.proofs.Steps.{begins_ordered, summon_taken, look_taken, settle_taken, step_consistent, step_ordered}

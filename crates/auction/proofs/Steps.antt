@@ -3,6 +3,7 @@ use Rattle.std.proofs.Common.{◌≡◌, ℕ, zero, suc, ◌+◌, ◌-◌, ◌/�
 use lib.Signed.{lt_z}
 use Rattle.std.specs.Option.{option_to_list}
 use Rattle.std.specs.List.{AllByRecursion}
+use Rattle.std.proofs.Math.Nat.{div-eq_of_lt, add-div_right}
 use Rattle.std.proofs.lemmas.Bool.{cases_lt, cond_both, cond-true, cond-false, eq-eqb, lt-ltb, le-leb, lt-leb, false≢true}
 use Rattle.std.proofs.lemmas.List.{append-nil}
 use Rattle.std.proofs.lemmas.List.Sums.{sum_by-cons}
@@ -26,7 +27,6 @@ use Rattle.auction.specs.Rules.{looked_all, bid_after, bid_at, taken, counted, b
 use Rattle.auction.specs.Consistent.{Consistent}
 use Rattle.auction.specs.Runs.{RunState, in_flight, looks_for, gathered, if_waiting, if_bidding, beginning, waits_after, joins_line, first_acts, step_by, one_step, many_steps, ending_of, run_report, Reports}
 use Rattle.auction.specs.InOrder.{times_in, Due, InOrder, Ordered, Grown}
-use Rattle.std.proofs.Math.Nat.{div-eq_of_lt, add-div_right}
 use Rattle.auction.proofs.Gathering.{looks_on}
 use Rattle.auction.proofs.Counted.{one}
 use Rattle.auction.proofs.Matching.{holder_served}
@@ -188,10 +188,13 @@ module _ (m : Meaning) where
       pub summon_taken : bid_at m i Summon t ≡ Ok fresh
       summon_taken = bid_at_lem i Summon t Waiting (omega (arith, within is_waiting refl t.standings i waits, con.standings_sized)) (is_waiting_lem (standing_at t i) waits)
 
-      summons : InTally line (flight ++ in_flight i (looks_for t.lanes (length (row_of m i))) ∷ []) (called m i Summon t)
+      abbrev n : ℕ
+      n = looks_for t.lanes (length (row_of m i))
+
+      summons : InTally line (flight ++ in_flight i n ∷ []) (called m i Summon t)
       summons =
-          subst (λ r. InTally line (flight ++ in_flight i (looks_for t.lanes (length (row_of m i))) ∷ []) (taken r (bids Summon i) t)) (sym summon_taken)
-          (joins m t.lanes i (looks_for t.lanes (length (row_of m i))) line flight t.standings fresh law (ap (looks_for t.lanes) (omega arith)))
+          subst (λ r. InTally line (flight ++ in_flight i n ∷ []) (taken r (bids Summon i) t)) (sym summon_taken)
+          (joins m t.lanes i n line flight t.standings fresh law (ap (looks_for t.lanes) (omega arith)))
 
     -- Who is first in flight has a bid that has entries left to look at exactly if it has looks left, so that a look or a settle is accepted.
     module _ (f : InFlight) (line : List ℕ) (flight : List InFlight) (law : InTally line (f ∷ flight) t) where
@@ -201,16 +204,19 @@ module _ (m : Meaning) where
       abbrev row : List (ℕ × ℕ)
       row = row_of m f.carrier
 
+      abbrev unseen : ℕ
+      unseen = length row - due.0.looked
+
       among : f.carrier < m.carriers
       among = omega (arith, bidding_within t.standings f.carrier due.0 due.1, con.standings_sized)
 
       abbrev further : Bid
       further = looked_on t.lanes t.prices row due.0
 
-      entries_left : (left : ℕ) → f.looks_left ≡ suc left → 1 ≤ length row - due.0.looked
+      entries_left : (left : ℕ) → f.looks_left ≡ suc left → 1 ≤ unseen
       entries_left left e =
-          ⊎_elim (λ l. let z = looks_none t.lanes (length row - due.0.looked) con.limits.some_lanes (omega (arith, l)) in absurd (omega (arith, e, due.2, z))) (λ l. l)
-          (cases_lt (length row - due.0.looked) 1)
+          ⊎_elim (λ l. let z = looks_none t.lanes unseen con.limits.some_lanes (omega (arith, l)) in absurd (omega (arith, e, due.2, z))) (λ l. l)
+          (cases_lt unseen 1)
 
       pub look_taken : (left : ℕ) → f.looks_left ≡ suc left → bid_at m f.carrier Look t ≡ Ok further
       look_taken left e =
@@ -221,10 +227,9 @@ module _ (m : Meaning) where
       looks left e =
           subst (λ r. InTally line (flight ++ in_flight f.carrier left ∷ []) (taken r (bids Look f.carrier) t)) (sym (look_taken left e))
           (rotates m t.lanes f line flight t.standings law left further
-          (let n = length row - due.0.looked in
-          let q : looks_for t.lanes (n - min t.lanes n) ≡ looks_for t.lanes (length row - further.looked) =
+          (let q : looks_for t.lanes (unseen - min t.lanes unseen) ≡ looks_for t.lanes (length row - further.looked) =
           ap (looks_for t.lanes) (omega (arith, (looks_on t.prices t.lanes row due.0).further)) in
-          omega (arith, looks_some t.lanes n con.limits.some_lanes (entries_left left e), e, due.2, q)))
+          omega (arith, looks_some t.lanes unseen con.limits.some_lanes (entries_left left e), e, due.2, q)))
 
       gone : (s : Standing) → is_waiting s ≡ false → is_bidding s ≡ false → InOrder m t.lanes (line ++ []) flight (set t.standings f.carrier s)
       gone s w b = subst (λ z. InOrder m t.lanes z flight (set t.standings f.carrier s)) (sym (append-nil line)) (leaves m t.lanes f line flight t.standings law s w b)
@@ -246,8 +251,8 @@ module _ (m : Meaning) where
           bid_at_lem f.carrier Settle t (Bidding due.0) among due.1
           ∙ cond-true {A = Result Bid Refusal} (looked_all row due.0) _ _
           (le-leb (length row) due.0.looked
-          (⊎_elim (λ l. let s = looks_some t.lanes (length row - due.0.looked) con.limits.some_lanes l in absurd (omega (arith, e, due.2, s))) (λ l. omega (arith, l))
-          (cases_lt 0 (length row - due.0.looked))))
+          (⊎_elim (λ l. let s = looks_some t.lanes unseen con.limits.some_lanes l in absurd (omega (arith, e, due.2, s))) (λ l. omega (arith, l))
+          (cases_lt 0 unseen)))
 
       settles : f.looks_left ≡ 0 → InTally (line ++ joins_line f.carrier (settle_answer f.carrier m (Some t))) flight (settled m f.carrier t)
       settles e =

@@ -16,11 +16,11 @@ use Rattle.auction.specs.Consistent.{Consistent}
 use Rattle.auction.specs.Rules.{between}
 use Rattle.auction.specs.Runs.{RunState, gathered, if_waiting, if_bidding, beginning, first_acts, step_by, one_step, many_steps, ending_of, since, report_of, run_report, Reports, run_answer, ran, run_tally}
 use Rattle.auction.specs.InOrder.{Ordered, Grown}
+use Rattle.auction.specs.MadeOf.{MadeOf}
 use Rattle.sources.proofs.Reading.{row_length}
 use Rattle.auction.proofs.Queues.{gathered_more, gathered_short}
-use Rattle.auction.specs.MadeOf.{MadeOf}
-use Rattle.auction.proofs.MadeOf.{run_made}
 use Rattle.auction.proofs.Steps.{room_enough, ending_is, begins_ordered, step_ordered, steps_grow, idle_steps, run_reports}
+use Rattle.auction.proofs.MadeOf.{run_made}
 use Rattle.rings.specs.Held.{held}
 use Rattle.hall.specs.declared.books.Books.{Books}
 use Rattle.hall.specs.declared.books.queues.Queues.{Queues}
