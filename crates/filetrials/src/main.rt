@@ -129,7 +129,7 @@ impl Tally {
     // Loads a file and writes it again, and counts what became of it.
     fn examine(&mut self, bytes: &[u8]) -> Result<(), AllocError> {
         let (answer, right) = write_again(bytes, OUT.len());
-        let right = right && agrees(bytes);
+        let right = right && agrees(bytes, answer);
         match answer {
             Ok(_) => {
                 self.accept(right && refused_if_short(bytes));
@@ -206,8 +206,8 @@ fn load_by_states(
 }
 
 // Whether a file comes to the same as a whole and state by state: the same heading and tables, or the same refusal at
-// the same place. Refused as a whole, it leaves the tables as they were.
-fn agrees(bytes: &[u8]) -> bool {
+// the same place, which is also that of writing it again. Refused as a whole, it leaves the tables as they were.
+fn agrees(bytes: &[u8], written: Result<usize, Fault>) -> bool {
     let mut starts = STARTS;
     let mut entries = ENTRIES;
     let mut starts_by_states = STARTS;
@@ -218,7 +218,7 @@ fn agrees(bytes: &[u8]) -> bool {
         Ok(_) => starts == starts_by_states && entries == entries_by_states,
         Err(_) => starts == STARTS && entries == ENTRIES,
     };
-    right && whole == by_states
+    right && whole == by_states && whole.map(|_| bytes.len()) == written
 }
 
 // Loads a file and writes it again to so many bytes of the buffer. Gives the answer, and whether the buffer then begins

@@ -21,5 +21,5 @@ pub record Replayed (m : Meaning) (calls : List Call) (before after : List (Resu
   pub lawful : (t : Tally) → tally_of b ≡ Some t → AuctionLaws m t
   -- Each run, of this list or another, is made of summonses, looks and settles that are accepted.
   pub made : RunsMade m
-  -- A bid that no award came between is never stale: after this list or another, as one that has what a run is made of in the run's place.
+  -- A bid that no award came between is never stale. Said of any list of calls, so also of one in which the summonses, looks and settles of a run stand in its place.
   pub undisturbed : NeverStale m

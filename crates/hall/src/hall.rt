@@ -37,7 +37,7 @@ impl<S: Source> Hall<S> {
         }
     }
 
-    // Sets every price to 0, every carrier to waiting and every count to 0, also when an auction is under way.
+    // Begins an auction, or begins anew: no job costs anything or has a holder, every carrier waits, and nothing is counted yet.
     // Refused, in this order: counts of the source outside the limits, step outside 1 to 2^36, lanes outside 1 to 32.
     pub fn start(&mut self, step: u64, lanes: usize) -> Result<(), Refusal>
         ensures ruled { Ruled (λ m _. start_answer step lanes m) (start_tally step lanes) (S.meaning self.old.source) self.old.books self.new.books result }
@@ -47,7 +47,7 @@ impl<S: Source> Hall<S> {
         Ok(())
     }
 
-    // Makes a waiting carrier bidding, with nothing looked at.
+    // Opens a bid for a carrier that waits; none of its row is looked at yet.
     // Refused, in this order: never started, carrier number too large, not waiting.
     pub fn summon(&mut self, carrier: usize) -> Result<(), Refusal>
         ensures ruled { Ruled (summon_answer carrier) (summon_tally carrier) (S.meaning self.old.source) self.old.books self.new.books result }
@@ -59,7 +59,7 @@ impl<S: Source> Hall<S> {
             .summon(&self.source, carrier)
     }
 
-    // Takes the next lanes entries of a bidding carrier's row, or as many as are left, at the prices now.
+    // Looks further along the row of a bidding carrier, at the prices now: by as many entries as there are lanes, or to the end of the row.
     // Refused, in this order: never started, carrier number too large, no open bid, row fully looked at.
     pub fn look(&mut self, carrier: usize) -> Result<(), Refusal>
         ensures ruled { Ruled (look_answer carrier) (look_tally carrier) (S.meaning self.old.source) self.old.books self.new.books result }
@@ -72,7 +72,7 @@ impl<S: Source> Hall<S> {
             .look(&self.source, carrier)
     }
 
-    // Ends a bid whose row is fully looked at: out, stale or awarded.
+    // Ends a carrier's open bid once its whole row is looked at: out, stale or awarded.
     // Refused, in this order: never started, carrier number too large, no open bid, entries not looked at.
     pub fn settle(&mut self, carrier: usize) -> Result<Verdict, Refusal>
         ensures ruled { Ruled (settle_answer carrier) (settle_tally carrier) (S.meaning self.old.source) self.old.books self.new.books result }

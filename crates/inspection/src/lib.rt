@@ -1,9 +1,9 @@
 // What `inspect` prints of a sheet file.
 #![tactic(auto)]
 
-ghost use Rattle.std.specs.Prelude.{◌≡◌, ◌++◌, length, IfOk, OnOk, string_bytes};
+ghost use Rattle.std.specs.Prelude.{◌≡◌, ◌≤◌, ◌++◌, length, IfOk, OnOk, string_bytes};
 ghost use Rattle.inspection.specs.Inspected.{Lists, Tells};
-ghost use Rattle.sheetfile.specs.Reading.{loaded_within};
+ghost use Rattle.sheetfile.specs.Reading.{loaded, loaded_within};
 ghost use Rattle.inspection.specs.Listing.{row_line, sheet_text};
 ghost use Rattle.sources.specs.Meaning.{row_of};
 ghost use Rattle.sources.specs.OfSheet.{sheet_meaning};
@@ -29,19 +29,33 @@ pub fn inspect_sheet(heap: Global, bytes: &[u8]) -> Result<Printed<Fault>, Alloc
     Printed::telling(heap, "refused ", listed(heap, bytes))
 }
 
-// The lines of a sheet file, which is loaded and written again before it is listed.
+// The lines of a sheet file, within the limits.
 fn listed(heap: Global, bytes: &[u8]) -> Result<String, Failure<Fault>>
     ensures { Lists (length bytes.now) (loaded_within bytes.now) result }
 {
     if bytes.len() > MOST_BYTES {
         return Err(Failure::Refused(Fault::bare(Refusal::TooShort)));
     }
-    let mut starts = [0usize; MOST_STARTS];
-    let mut entries = [Entry { job: 0, worth: 0 }; MOST_ENTRIES];
-    let mut out = [0u8; MOST_BYTES];
-    rewrite(bytes, &mut starts, &mut entries, &mut out).map_err(Failure::Refused)?;
-    let heading = load(bytes, &mut starts, &mut entries).map_err(Failure::Refused)?;
-    let sheet = sheet_over(heading, &starts, &entries).map_err(Failure::Refused)?;
+    let mut starts = vec![in heap; 0usize; MOST_STARTS]?;
+    let mut entries = vec![in heap; Entry { job: 0, worth: 0 }; MOST_ENTRIES]?;
+    let mut out = vec![in heap; 0u8; bytes.len()]?;
+    list_file(heap, bytes, &mut starts, &mut entries, &mut out)
+}
+
+// The lines of a sheet file, which is loaded and written again before it is listed.
+fn list_file(
+    heap: Global,
+    bytes: &[u8],
+    starts: &mut [usize],
+    entries: &mut [Entry],
+    out: &mut [u8],
+) -> Result<String, Failure<Fault>>
+    requires { length bytes.now ≤ length out.old }
+    ensures { Lists (length bytes.now) (loaded bytes.now (length starts.old) (length entries.old)) result }
+{
+    rewrite(bytes, starts, entries, out).map_err(Failure::Refused)?;
+    let heading = load(bytes, starts, entries).map_err(Failure::Refused)?;
+    let sheet = sheet_over(heading, starts, entries).map_err(Failure::Refused)?;
     Ok(list_sheet(heap, &sheet, bytes.len())?)
 }
 

@@ -91,7 +91,7 @@ pub fn print_pairs(sheet: &[u8], text: &mut [u8; MOST_TEXT]) -> Printed
     }
 }
 
-// Puts the line of a refusal, at the beginning of a buffer.
+// Writes the line of a refusal to the beginning of a buffer, and gives its length.
 #[tactic(auto, using(crate::proofs::Texts::puts_over))]
 fn put_refused(refusal: Refusal, out: &mut [u8]) -> usize
     requires { 64 ≤ length out.old }
@@ -99,12 +99,12 @@ fn put_refused(refusal: Refusal, out: &mut [u8]) -> usize
     ensures after { out.new ≡ over out.old 0 (refused_line refusal) }
 {
     let mut output = Output::new(out);
-    put_refusal(refusal, &mut output);
+    put_refused_line(refusal, &mut output);
     output.len()
 }
 
 // Puts the line of a refusal.
-fn put_refusal(refusal: Refusal, output: &mut Output<'_>)
+fn put_refused_line(refusal: Refusal, output: &mut Output<'_>)
     ensures puts { Puts output.old output.new (refused_line refusal) }
     ensures short { length (refused_line refusal) ≤ 12 }
 {

@@ -11,49 +11,49 @@ use std::fmt;
 // Why a call is refused. The list is closed, and a refused call alters nothing.
 #[derive(Clone, Copy, Debug, PartialEq, Eq)]
 pub enum Refusal {
-    // The bytes end before a number, or inside one before its sixth group.
+    // No byte is left where a number should begin, or its bytes end before a group that ends it, and before the sixth.
     NumberCut = 1,
-    // A number's sixth group says that another follows.
+    // A number does not end with its sixth group.
     NumberTooLong = 2,
-    // A number of several groups ends in a zero group.
+    // A number has more than one group, and its last one is zero.
     NumberPadded = 3,
-    // Carriers are outside 1 to 128, jobs outside 1 to 256, or the ceiling is above 2^36.
+    // There are no carriers or more than 128, no jobs or more than 256, or the ceiling exceeds 2^36.
     CountsOutside = 4,
-    // A job is not below the number of jobs, or not above the job before it in its row.
+    // An entry's job is not known, or does not exceed that of the entry before it in the row.
     JobOutOfOrder = 5,
-    // A worth is 0 or above the ceiling.
+    // An entry is worth 0, or more than the ceiling.
     WorthOutside = 6,
-    // A row is wanted after the last announced one.
+    // Another row is to be read, and all that were announced have been.
     NoRowLeft = 7,
-    // Closing finds announced rows missing.
+    // A file is to be closed before all announced rows have been read.
     RowsMissing = 8,
-    // The closing total is not the number of entries read.
+    // The total at the end differs from the number of entries that were read.
     TotalDiffers = 9,
-    // Bytes follow the closing total.
+    // A file has bytes behind its total.
     BytesFollow = 10,
-    // Row starts are not carriers + 1 in number, don't begin with 0, fall, or pass the entry table's end.
+    // There are not carriers + 1 row starts, the first is not 0, one is below the one before it, or one is above the number of entries.
     StartsUnfit = 11,
-    // A table, ring, limit or buffer is too short for what has to be written.
+    // What has to be written does not fit into a table, a ring or a buffer, or what is given exceeds a limit.
     TooShort = 12,
-    // The hall was never started.
+    // No start of the hall was accepted so far.
     NeverStarted = 13,
-    // The step is outside 1 to 2^36.
+    // The step is 0 or above 2^36.
     StepOutside = 14,
-    // Lanes are outside 1 to 32.
+    // The lanes are 0 or above 32.
     LanesOutside = 15,
-    // The carrier number is too large.
+    // The carrier number is not below the number of carriers.
     NoSuchCarrier = 16,
-    // The job number is too large.
+    // The job number is not below the number of jobs.
     NoSuchJob = 17,
-    // The summoned carrier isn't waiting.
+    // The carrier to be summoned bids, is served or is out.
     NotWaiting = 18,
-    // The carrier has no open bid.
+    // The carrier that is to look or to settle is not bidding.
     NoOpenBid = 19,
-    // Look finds the row fully looked at.
+    // A look finds nothing left of the carrier's row.
     RowLookedAt = 20,
-    // Settle finds entries not looked at.
+    // A settle finds entries that the bid has not looked at.
     RowNotLookedAt = 21,
-    // The depth is outside 1 to 128.
+    // The depth is 0 or above 128.
     DepthOutside = 22,
 }
 

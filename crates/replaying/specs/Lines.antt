@@ -41,7 +41,7 @@ said_of_two word a b =
     cond (bytes_eq word (codes "run")) (Some (Make (Run a b)))
     None)
 
--- A word, the words behind it, as far as there are any, and whether there are more than two: those are not understood.
+-- A word, the two words behind it, if there are any, and whether more follow; a line with more is not understood.
 abbrev pub said_with : List ℕ → Option (List ℕ) → Option (List ℕ) → Bool → Option Said
 said_with w None second more = said_alone w
 said_with w (Some a) None more = option_and_then (said_of_one w) (number_in a)

@@ -1,5 +1,5 @@
 -- What a load accepts, and a file that is written again.
-use Rattle.std.proofs.Common.{◌≡◌, ℕ, ◌+◌, ◌<◌, ◌≤◌, ltb, cond, ◌⊎◌, ⊎_elim, List, length, get_or, take, drop, Some, None, Ok, Err, Option, Result, Bor, MatchOption, is_ok, sym, ap, ◌∙◌, subst, arith, w8, Fits}
+use Rattle.std.proofs.Common.{◌≡◌, ℕ, ◌+◌, ◌<◌, ◌≤◌, ltb, cond, ◌⊎◌, ⊎_elim, List, length, get_or, take, drop, Some, None, Ok, Err, Option, Result, IfOk, Bor, MatchOption, is_ok, sym, refl, ap, ◌∙◌, arith, w8, Fits}
 use Rattle.std.specs.Result.{result_map_both}
 use Rattle.std.specs.Option.{unwrap_or}
 use Rattle.std.specs.List.{slice_range}
@@ -90,13 +90,17 @@ module _ (bs starts : List ℕ) (entries : List Entry) (typed : (i : ℕ) → Fi
     pub whole : (m : Meaning) × (loaded bs (length starts) (length entries) ≡ Ok m) × (h ≡ heading_of m)
     whole = heading_ok (loaded bs (length starts) (length entries)) h told
 
-    pub means_whole : sheet_of h (take (h.carriers + 1) starts') entries' ≡ whole.0
-    means_whole = subst (λ (x : Heading). sheet_of x (take (x.carriers + 1) starts') entries' ≡ whole.0) (sym whole.2) (fills_sheet whole.0 whole.1).1
+    -- the sheet over the tables means the file
+    pub fills_whole : sheet_in h starts' entries' ≡ Ok whole.0
+    fills_whole =
+        let s = fills_sheet whole.0 whole.1 in
+        ap (λ (x : Heading). sheet_in x starts' entries') whole.2
+        ∙ ap (result_map_both (λ _. sheet_of (heading_of whole.0) (take (whole.0.carriers + 1) starts') entries') fault_of) s.0 ∙ ap Ok s.1
 
-    -- what a sheet filled from the tables is written as
-    module _ (m : Meaning) (means : m ≡ sheet_of h (take (h.carriers + 1) starts') entries') where
+    -- what the sheet over the tables is written as
+    module _ (m : Meaning) (means : Ok m ≡ sheet_in h starts' entries') where
       is_whole : m ≡ whole.0
-      is_whole = means ∙ means_whole
+      is_whole = ok_same m whole.0 (means ∙ fills_whole)
 
       pub same_out : written m ≡ bs
       same_out = ap written is_whole ∙ same_bytes whole.0 whole.1
@@ -114,13 +118,6 @@ module _ (bs starts : List ℕ) (entries : List Entry) (typed : (i : ℕ) → Fi
             ap (λ k. Ok k) (ok_same n (length bs) (is ∙ written_again))
             ∙ sym (room_there (fault_of TooShort) (length bs) room (length bs) fits)
             ∙ sym (ap (λ q. and_then q (λ _. room_for (fault_of TooShort) (length bs) room (length bs))) whole.1)
-
-    -- the sheet over the tables means the file
-    pub fills_whole : sheet_in h starts' entries' ≡ Ok whole.0
-    fills_whole =
-        let s = fills_sheet whole.0 whole.1 in
-        ap (λ (x : Heading). sheet_in x starts' entries') whole.2
-        ∙ ap (result_map_both (λ _. sheet_of (heading_of whole.0) (take (whole.0.carriers + 1) starts') entries') fault_of) s.0 ∙ ap Ok s.1
 
   pub loads_then_fills : (r : Result Heading Fault) → r ≡ heading_answer (loaded bs (length starts) (length entries)) → and_then r (λ h. sheet_in h starts' entries') ≡ loaded bs (length starts) (length entries)
   loads_then_fills (Err e) told = sym (heading_err (loaded bs (length starts) (length entries)) e told)
@@ -141,3 +138,9 @@ module _ (bs starts : List ℕ) (entries : List Entry) (typed : (i : ℕ) → Fi
           let v = heading_err (loaded bs (length starts) (length entries)) e (sym err ∙ told) in
           (ss ∙ sym (updated_err (loaded bs (length starts) (length entries)) e starts (λ m. over starts 0 (starts_of m.rows)) v), es ∙ sym (updated_err (loaded bs (length starts) (length entries)) e entries (λ m. over entries 0 (entries_of m.rows)) v));
     }
+
+-- what a load accepts is a sheet file
+pub loads_file : (bs starts : List ℕ) (entries : List Entry) (r : Result Heading Fault) (starts' : List ℕ) (entries' : List Entry) → LoadsExactly bs starts entries r starts' entries' →
+    IfOk r (λ h. (m : Meaning) × SheetFile bs m × (sheet_in h starts' entries' ≡ Ok m))
+loads_file bs starts entries (Err e) starts' entries' law = tt
+loads_file bs starts entries (Ok h) starts' entries' law = let k = law.only h refl in (k.0, k.1, k.4)

@@ -18,6 +18,7 @@ use Rattle.sheetfile.specs.Steps.{and_then, room_for, updated}
 use Rattle.numbers.specs.Writing.{over}
 use Rattle.sheetfile.specs.Tables.{BeginsWith, HoldsRow, heading_answer, row_count}
 use Rattle.sheetfile.specs.declared.loader.Bare.{Bare}
+use Rattle.sheetfile.specs.declared.loader.Closed.{Closed}
 use Rattle.sheetfile.specs.declared.loader.Headed.{Headed}
 use Rattle.sheetfile.specs.declared.loader.Refused.{Refused}
 use Rattle.sheetfile.proofs.Steps.{err_not_ok, followed, ok_same, roomy, tested}
@@ -87,6 +88,10 @@ headed_err b (Err e) back is = let same : back ≡ record { loader = b; fault = 
 headed_err b (Ok (h, at)) back is = absurd (let z : ◌≡◌ {A = ℕ} 0 1 = cc in omega arith)
 
 -- a loader that is not closed
+pub closed_ok : (l : Headed) (r : Result (Unit {0}) Fault) (k : Closed) → Ok k ≡ closed_by l r → k.heading ≡ l.heading
+closed_ok l (Err e) k is = absurd (let z : ◌≡◌ {A = ℕ} 0 1 = cc in omega arith)
+closed_ok l (Ok u) k is = let same : k ≡ record { heading = l.heading } = cc in ap (λ (x : Closed). x.heading) same
+
 pub closed_err : (l : Headed) (r : Result (Unit {0}) Fault) (back : Refused Headed) → Err back ≡ closed_by l r → r ≡ Err back.fault
 closed_err l (Err e) back is = let same : back ≡ record { loader = l; fault = e } = cc in ap (λ (x : Refused Headed). Err x.fault) (sym same)
 closed_err l (Ok u) back is = absurd (let z : ◌≡◌ {A = ℕ} 0 1 = cc in omega arith)

@@ -28,7 +28,8 @@ entry_bytes e = encoded e.0 ++ encoded e.1
 abbrev pub row_bytes : Row → List ℕ
 row_bytes row = encoded (length row) ++ flat_map entry_bytes row
 
--- Carriers, jobs, ceiling; for each carrier its entry count, then job and worth of each entry; the total of entries.
+-- The three numbers of the heading; then, row by row, the count of its entries and their jobs and worths; then how many
+-- entries there are in all.
 -- Every number is in its shortest form.
 abbrev pub file_of : Meaning → List ℕ
 file_of m = heading_bytes (heading_of m) ++ (flat_map row_bytes m.rows ++ encoded (entries_in m.rows))

@@ -4,11 +4,10 @@ ghost use Rattle.sheetfile.specs.Steps.{updated};
 ghost use Rattle.sheetfile.specs.Tables.{entries_after, starts_after};
 ghost use Rattle.sheetfile.specs.Writing.{out_after, rewrite_answer};
 
-use crate::whole::{load_surveyed, survey};
+use crate::whole::{load_surveyed, sheet_over, survey};
 use crate::writer::write;
 use refusals::{Fault, Refusal};
 use sources::form::Entry;
-use sources::sheet::Sheet;
 
 // Loads a file into the tables and writes it again. What is accepted comes out as the same bytes, so a buffer that is
 // shorter than they are is refused before anything is written. Where it is refused, the tables and the buffer stay as
@@ -24,13 +23,12 @@ pub fn rewrite(
     ensures starts { starts.new ≡ updated result starts.old (λ _. starts_after bytes.now starts.old (length entries.old)) }
     ensures entries { entries.new ≡ updated result entries.old (λ _. entries_after bytes.now (length starts.old) entries.old) }
 {
-    let heading = survey(bytes, starts.len(), entries.len())?;
+    let surveyed = survey(bytes, starts.len(), entries.len())?;
     if out.len() < bytes.len() {
         return Err(Fault::bare(Refusal::TooShort));
     }
-    load_surveyed(bytes, heading, starts, entries)?;
-    let mut sheet = Sheet::new();
-    sheet.fill(heading, &starts[..heading.carriers + 1], entries)?;
+    let heading = load_surveyed(bytes, surveyed, starts, entries)?;
+    let sheet = sheet_over(heading, starts, entries)?;
     let len = write(&sheet, out)?;
     Ok(len)
 }

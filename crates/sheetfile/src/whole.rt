@@ -1,7 +1,9 @@
 // Whole files.
-ghost use Rattle.std.specs.Prelude.{◌≡◌, length, Ok};
+ghost use Rattle.std.specs.Prelude.{◌≡◌, length, IfOk, Ok};
 ghost use Rattle.numbers.specs.Writing.{over};
 ghost use Rattle.sheetfile.specs.Laws.{LoadsExactly};
+ghost use Rattle.sheetfile.specs.Layout.{SheetFile};
+ghost use Rattle.sources.specs.Meaning.{Meaning};
 ghost use Rattle.sheetfile.specs.Reading.{loaded, loaded_within};
 ghost use Rattle.sheetfile.specs.Steps.{and_then, updated};
 ghost use Rattle.sheetfile.specs.Tables.{entries_after, heading_answer, sheet_in, starts_after};
@@ -40,29 +42,28 @@ pub(crate) fn survey(bytes: &[u8], starts: usize, room: usize) -> Result<Heading
     Ok(heading)
 }
 
-// Loads a file into the tables that it was surveyed for: it is not refused.
+// Loads a file into the tables that it was surveyed for, and gives its heading: it is not refused.
 pub(crate) fn load_surveyed(
     bytes: &[u8],
-    heading: Heading,
+    surveyed: Heading,
     starts: &mut [usize],
     entries: &mut [Entry],
-) -> Result<(), Fault>
-    requires { Ok heading ≡ heading_answer (loaded bytes.now (length starts.old) (length entries.old)) }
-    ensures answer { result ≡ Ok tt }
+) -> Result<Heading, Fault>
+    requires { Ok surveyed ≡ heading_answer (loaded bytes.now (length starts.old) (length entries.old)) }
+    ensures answer { result ≡ Ok surveyed }
     ensures starts { starts.new ≡ starts_after bytes.now starts.old (length entries.old) }
     ensures entries { entries.new ≡ entries_after bytes.now (length starts.old) entries.old }
-    ensures exact { LoadsExactly bytes.now starts.old entries.old (Ok heading) starts.new entries.new }
+    ensures exact { LoadsExactly bytes.now starts.old entries.old result starts.new entries.new }
 {
     let mut loader = Bare::new(bytes).read_heading(starts)?;
-    for _i in 0..heading.carriers {
+    for _i in 0..surveyed.carriers {
         loader.read_row(starts, entries)?;
     }
-    loader.close()?;
-    Ok(())
+    Ok(loader.close()?.heading())
 }
 
-// Loads a whole file into the tables, and gives its heading. Where it is refused, the tables stay as they were. The sheet
-// over the tables then means the file.
+// Loads a whole file into the tables, and gives its heading: the sheet over the tables then means the file. Where it is
+// refused, the tables stay as they were.
 // Starts and entries are two parameters in this crate: the caller lends each of its tables to each call.
 pub fn load(bytes: &[u8], starts: &mut [usize], entries: &mut [Entry]) -> Result<Heading, Fault>
     ensures answer { result ≡ heading_answer (loaded bytes.now (length starts.old) (length entries.old)) }
@@ -71,9 +72,8 @@ pub fn load(bytes: &[u8], starts: &mut [usize], entries: &mut [Entry]) -> Result
     ensures exact { LoadsExactly bytes.now starts.old entries.old result starts.new entries.new }
     ensures filling { and_then result (λ h. sheet_in h starts.new entries.new) ≡ loaded bytes.now (length starts.old) (length entries.old) }
 {
-    let heading = survey(bytes, starts.len(), entries.len())?;
-    load_surveyed(bytes, heading, starts, entries)?;
-    Ok(heading)
+    let surveyed = survey(bytes, starts.len(), entries.len())?;
+    load_surveyed(bytes, surveyed, starts, entries)
 }
 
 // The sheet over tables that hold one: of the starts, the first carriers + 1. It is refused as filling is, and never where
@@ -91,9 +91,9 @@ pub fn sheet_over<'a>(
     Ok(sheet)
 }
 
-// Loads a file of at most 32,768 bytes into tables for 128 carriers and 4,096 entries, and gives its heading. A longer
-// file is refused before any of its bytes is read. Where it is refused, the tables stay as they were. The sheet over the
-// tables then means the file.
+// Loads a file of at most 32,768 bytes into tables for 128 carriers and 4,096 entries, and gives its heading: the sheet
+// over the tables then means the file. A longer file is refused before any of its bytes is read. Where it is refused, the
+// tables stay as they were.
 pub fn load_within(
     bytes: &[u8],
     starts: &mut [usize; MOST_STARTS],
@@ -103,6 +103,7 @@ pub fn load_within(
     ensures starts { starts.new ≡ updated (loaded_within bytes.now) starts.old (λ m. over starts.old 0 (starts_of m.rows)) }
     ensures entries { entries.new ≡ updated (loaded_within bytes.now) entries.old (λ m. over entries.old 0 (entries_of m.rows)) }
     ensures filling { and_then result (λ h. sheet_in h starts.new entries.new) ≡ loaded_within bytes.now }
+    ensures file { IfOk result (λ h. (m : Meaning) × SheetFile bytes.now m × (sheet_in h starts.new entries.new ≡ Ok m)) }
 {
     if bytes.len() > MOST_BYTES {
         return Err(Fault::bare(Refusal::TooShort));

@@ -91,7 +91,7 @@ fill_verdict h starts entries = or_refused (fill_refusal h starts entries)
 abbrev pub pair_of : Entry → ℕ × ℕ
 pair_of e = (e.job, e.worth)
 
--- Row i: the entries from start i up to, and without, start i + 1.
+-- The row of carrier i begins at start i and ends before start i + 1.
 abbrev pub sheet_row : List ℕ → List Entry → ℕ → List Entry
 sheet_row starts entries i = take (slice_index starts (i + 1) - slice_index starts i) (drop (slice_index starts i) entries)
 

@@ -10,7 +10,7 @@ use crate::source::Source;
 
 pub mod filling;
 
-// Row i is the entries from start i up to, and without, start i + 1. What filling checked holds of every sheet.
+// The row of carrier i begins at start i and ends before start i + 1. What filling checked holds of every sheet.
 // Two lent tables and no vector of rows: no heap is used here.
 #[derive(Drop)]
 pub struct Sheet<'a> {

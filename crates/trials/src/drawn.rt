@@ -5,7 +5,7 @@ use grids::Grid;
 use sources::form::Entry;
 use std::alloc::{AllocError, Global};
 
-// The calls of one list.
+// How many calls a list has.
 pub(crate) const CALLS: usize = 60;
 
 // The tables of a grid.

@@ -151,26 +151,32 @@ fn signed(number: u64) -> i64 {
     i64::try_from(number).unwrap_or(i64::MAX)
 }
 
-// A bid may be stale only if its best job's price is not what it was at the look, and only if a job was awarded since the summons.
-fn may_be_stale(before: &Seen, carrier: usize, best: Best) -> bool {
-    let net_now = signed(best.worth).saturating_sub(signed(before.price(best.job)));
-    let undisturbed = before.summoned_at.get(carrier) == Some(&before.counts.awards);
-    net_now != best.net && !undisturbed
+// What is bid: the price seen plus the best net, minus the runner-up, plus the step.
+fn bid_for(before: &Seen, bid: Bid, best: Best) -> i64 {
+    let seen = signed(best.worth).saturating_sub(best.net);
+    seen.saturating_add(best.net)
+        .saturating_sub(signed(bid.runner_up))
+        .saturating_add(signed(before.step))
 }
 
-// A job is awarded for a best net above 0. It is the best job, it costs more than before, its former holder is displaced, and what is
-// paid is the price seen plus the best net, minus the runner-up, plus the step.
+// A bid is stale for a best net above 0, if it is at most the price now. So the price is not what it was at the look, and a job was
+// awarded since the summons.
+fn may_be_stale(before: &Seen, carrier: usize, bid: Bid, best: Best) -> bool {
+    let price = signed(before.price(best.job));
+    let net_now = signed(best.worth).saturating_sub(price);
+    let undisturbed = before.summoned_at.get(carrier) == Some(&before.counts.awards);
+    best.net > 0 && bid_for(before, bid, best) <= price && net_now != best.net && !undisturbed
+}
+
+// A job is awarded for a best net above 0. It is the best job, it costs what was bid, which is more than before, and its former holder
+// is displaced.
 fn is_award_right(before: &Seen, bid: Bid, best: Best, award: Award) -> bool {
-    let seen = signed(best.worth).saturating_sub(best.net);
-    let paid = signed(award.price).saturating_add(signed(bid.runner_up));
-    let due = seen
-        .saturating_add(best.net)
-        .saturating_add(signed(before.step));
+    let price = signed(award.price);
     best.net > 0
         && award.job == best.job
+        && price == bid_for(before, bid, best)
         && award.price > before.price(best.job)
         && before.served_with.get(best.job) == Some(&award.displaced)
-        && paid == due
 }
 
 // The laws of a settle that ended a bid so. `before` is what the hall told just before it. A bid without a best job ends in an out.
@@ -183,7 +189,7 @@ fn check_settle(before: &Seen, carrier: usize, verdict: Verdict) -> Result<(), T
     };
     match verdict {
         Verdict::Out => check(best.net <= 0),
-        Verdict::Stale => check(may_be_stale(before, carrier, best)),
+        Verdict::Stale => check(may_be_stale(before, carrier, bid, best)),
         Verdict::Awarded(award) => check(is_award_right(before, bid, best, award)),
     }
 }

@@ -1,11 +1,11 @@
-use Rattle.std.proofs.Common.{◌≡◌, length, IsOkAnd, Ok, string_bytes, sym, subst, arith}
-use Rattle.sources.specs.OfSheet.{sheet_meaning}
-use Rattle.sheetfile.specs.Reading.{loaded_within}
-use Rattle.inspection.specs.Listing.{sheet_text}
+use Rattle.std.proofs.Common.{length, sym, subst, arith}
+use Rattle.sheetfile.proofs.Filling.{within_loaded}
+use Rattle.inspection.specs.Inspected.{Lists}
 use Rattle.inspection.proofs.listed.Goals as goal
 
 pub returns : goal.returns
 returns c =
     let bs = c.args.bytes.now in
-    let told : loaded_within bs ≡ Ok (sheet_meaning c.in_ok-sheet.sheet) = grind (arith) in
-    subst (λ r. IsOkAnd r (λ m. string_bytes c.in_ok-list_sheet.field-0 ≡ sheet_text m (length bs))) (sym told) c.in_ok-list_sheet.ensures
+    let same = within_loaded bs (length c.deref_mut.result.now) (length c.deref_mut-2.result.now) (omega (arith, c.if-bytes-gt-MOST_BYTES.false))
+    (omega (arith, c.deref_mut.ensures.len, c.in_ok-starts.ensures.len)) (omega (arith, c.deref_mut-2.ensures.len, c.in_ok-entries.ensures.len)) in
+    subst (λ r. Lists (length bs) r c.list_file.result) (sym same) c.list_file.ensures

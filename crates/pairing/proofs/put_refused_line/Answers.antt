@@ -3,7 +3,7 @@ use Rattle.std.proofs.lemmas.List.{length-append}
 use Rattle.refusals.specs.Numbering.{number_of}
 use Rattle.outputs.proofs.Puts.{puts_same, puts_then}
 use Rattle.pairing.specs.Listing.{newline}
-use Rattle.pairing.proofs.put_refusal.Goals as goal
+use Rattle.pairing.proofs.put_refused_line.Goals as goal
 
 pub returns : goal.returns
 returns c = record {
