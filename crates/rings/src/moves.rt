@@ -1,7 +1,8 @@
 // Lists of pushes and pops.
 ghost use Rattle.rings.specs.Held.{held, room};
 ghost use Rattle.rings.specs.Moves.{Performed, list_after, outcome_of};
-ghost use Rattle.std.specs.Prelude.{◌≡◌, true, false, length, is_ok, if◌then◌else◌, Ok, Err, nat_le};
+ghost use Rattle.rings.specs.declared.moves.Outcome.TheVariants.{Pushed, Popped};
+ghost use Rattle.std.specs.Prelude.{◌≡◌, true, false, length, is_ok, if◌then◌else◌, None, Ok, Err, nat_le};
 
 use crate::Ring;
 use refusals::Refusal;
@@ -21,10 +22,12 @@ pub enum Outcome<T> {
 }
 
 impl<'a, T: Copy> Ring<'a, T> {
-    // Makes one push or pop.
+    // Makes one push or pop. A push that is refused, and a pop that finds nothing, leave the ring as it was.
     pub fn perform(&mut self, step: Move<T>) -> Outcome<T>
         ensures told { result ≡ outcome_of (room self.old) (held self.old) step }
         ensures holds { held self.new ≡ list_after (room self.old) (held self.old) step }
+        ensures refused { result ≡ Pushed (Err Refusal.TooShort) → self.new ≡ self.old }
+        ensures empty { result ≡ Popped None → self.new ≡ self.old }
         ensures size { room self.new ≡ room self.old }
     {
         match step {
