@@ -21,3 +21,4 @@ pub mod CallsKeep
 pub mod MadeOf
 pub mod Undisturbed
 pub mod Props
+pub mod Reaching

@@ -1,17 +1,21 @@
--- That a tally is consistent has one proof at most, so that a ghost field can carry it.
+-- That a tally is consistent, and that it has the invariant, has one proof at most, so that a ghost field can carry it.
 use Prim.{IsProp}
 use mathlib.Core.Bool.{Bool-set}
 use mathlib.Core.HLevel.{Unit-prop}
-use Rattle.std.proofs.Common.{ℕ, ◌+◌, length, ℤ, pos, ◌≤ℤ◌, Some, None, count_by, Option}
+use Rattle.std.proofs.Common.{ℕ, ◌+◌, List, length, ℤ, pos, ◌≤ℤ◌, Some, None, count_by, Option}
 use native.Mathlib.Bridge.{le_prop}
 use native.Mathlib.Nat.{ℕ_set}
 use lib.Dec.{T_prop}
 use lib.Signed.{le_z}
+use Rattle.sources.specs.Meaning.{Meaning, row_of, worth_in}
 use Rattle.auction.specs.declared.standing.Best.{Best}
+use Rattle.auction.specs.declared.standing.Held.{Held}
 use Rattle.auction.specs.declared.standing.Standing.{Standing}
 use Rattle.auction.specs.declared.standing.Standing.TheVariants.{Waiting, Bidding, Served, Out}
 use Rattle.auction.specs.Tally.{Tally, price_at, holder_at, standing_at, is_bidding, is_out, holds_job, is_holder}
 use Rattle.auction.specs.Consistent.{Limits, BidSound, StandingSound, Consistent}
+use Rattle.auction.proofs.Rows.{worth_on}
+use Rattle.auction.proofs.Invariant.{BestFits, BidFits, StandingFits, Invariant}
 
 le_z_prop : (a b : ℤ) → IsProp (a ≤ℤ b)
 le_z_prop a b p q = λ i. record { le = T_prop (le_z a b) p.le q.le i }
@@ -56,4 +60,35 @@ consistent_prop carriers jobs ceiling t p q = λ i. record {
   balanced = ℕ_set t.counts.summonses (t.counts.awards + t.counts.stales + t.counts.outs + count_by is_bidding t.standings) p.balanced q.balanced i;
   outs_stay = ℕ_set t.counts.outs (count_by is_out t.standings) p.outs_stay q.outs_stay i;
   few_stales = le_prop p.few_stales q.few_stales i;
+}
+
+-- ---- the invariant
+
+best_fits_prop : (ps : List ℕ) (row : List (ℕ × ℕ)) (looked r : ℕ) (x : Best) → IsProp (BestFits ps row looked r x)
+best_fits_prop ps row looked r x p q = λ i. record {
+  worth_is = ℕ_set x.worth (worth_in row x.job) p.worth_is q.worth_is i;
+  worthy = le_prop p.worthy q.worthy i;
+  seen = le_prop p.seen q.seen i;
+  others = λ k l n. le_prop (p.others k l n) (q.others k l n) i;
+}
+
+bid_fits_prop : (ps : List ℕ) (row : List (ℕ × ℕ)) (looked r : ℕ) (o : Option Best) → IsProp (BidFits ps row looked r o)
+bid_fits_prop ps row looked r None p q = λ i k l. ℕ_set (worth_on row k) 0 (p k l) (q k l) i
+bid_fits_prop ps row looked r (Some x) p q = best_fits_prop ps row looked r x p q
+
+standing_fits_prop : (step : ℕ) (ps : List ℕ) (row : List (ℕ × ℕ)) (s : Standing) → IsProp (StandingFits step ps row s)
+standing_fits_prop step ps row Waiting p q = Unit-prop p q
+standing_fits_prop step ps row (Bidding b) p q = λ i. (le_prop p.0 q.0 i, bid_fits_prop ps row b.looked b.runner_up b.best p.1 q.1 i)
+standing_fits_prop step ps row (Served h) p q = λ i. record {
+  worth_is = ℕ_set h.worth (worth_in row h.job) p.worth_is q.worth_is i;
+  worthy = le_prop p.worthy q.worthy i;
+  of_none = le_prop p.of_none q.of_none i;
+  of_best = λ j. le_prop (p.of_best j) (q.of_best j) i;
+}
+standing_fits_prop step ps row Out p q = λ i j. le_prop (p j) (q j) i
+
+pub invariant_prop : (m : Meaning) (t : Tally) → IsProp (Invariant m t)
+invariant_prop m t p q = λ i. record {
+  consistent = consistent_prop m.carriers m.jobs m.ceiling t p.consistent q.consistent i;
+  fits = λ k l. standing_fits_prop t.step t.prices (row_of m k) (standing_at t k) (p.fits k l) (q.fits k l) i;
 }

@@ -10,3 +10,4 @@ pub mod Calls
 pub mod MadeOf
 pub mod Laws
 pub mod Undisturbed
+pub mod Reached

@@ -7,6 +7,7 @@ ghost use Rattle.auction.specs.Looks.{Looks};
 ghost use Rattle.auction.specs.Rules.{start_answer, start_tally, summon_answer, summon_tally, look_answer, look_tally, settle_answer, settle_tally};
 ghost use Rattle.auction.specs.Runs.{Reports, run_answer, run_tally};
 ghost use Rattle.auction.specs.MadeOf.{MadeOf};
+ghost use Rattle.auction.specs.Reached.{Reached, Lawful};
 ghost use Rattle.auction.specs.Calls.{price_answer, holder_answer, standing_answer, worth_answer, counts_answer, answer_to, tally_by};
 
 use crate::books::Books;
@@ -23,6 +24,8 @@ pub struct Hall<S: Source> {
     source: S,
     books: Option<Books>,
     ghost faithful: { (b : Books) → books ≡ Some b → NotedOf (S.Source.meaning source) b },
+    // Nothing but calls leads to the tally.
+    ghost reached: { Reached (S.Source.meaning source) (tally_of books) },
 }
 
 impl<S: Source> Hall<S> {
@@ -98,9 +101,10 @@ impl<S: Source> Hall<S> {
             .run(&self.source, depth, budget)
     }
 
-    // The books, if the hall was started.
+    // The books, if the hall was started. The laws hold of the tally in them.
     fn started(&self) -> Result<&Books, Refusal>
         ensures started { IfOk result (λ b. self.now.books ≡ Some b.now) }
+        ensures laws { Lawful (S.meaning self.now.source) (tally_of self.now.books) }
         ensures never { IfErr result (λ e. (e ≡ Refusal.NeverStarted) × (self.now.books ≡ None)) }
     {
         self.books.as_ref().ok_or(Refusal::NeverStarted)
@@ -108,35 +112,40 @@ impl<S: Source> Hall<S> {
 
     // The price of a job. Refused, in this order: never started, job number too large.
     pub fn price(&self, job: usize) -> Result<u64, Refusal>
-        ensures { result ≡ price_answer job (S.meaning self.now.source) (tally_of self.now.books) }
+        ensures answered { result ≡ price_answer job (S.meaning self.now.source) (tally_of self.now.books) }
+        ensures laws { Lawful (S.meaning self.now.source) (tally_of self.now.books) }
     {
         self.started()?.price(job)
     }
 
     // The carrier that holds a job, if there is one. Refused as the price is.
     pub fn holder(&self, job: usize) -> Result<Option<usize>, Refusal>
-        ensures { result ≡ holder_answer job (S.meaning self.now.source) (tally_of self.now.books) }
+        ensures answered { result ≡ holder_answer job (S.meaning self.now.source) (tally_of self.now.books) }
+        ensures laws { Lawful (S.meaning self.now.source) (tally_of self.now.books) }
     {
         self.started()?.holder(job)
     }
 
     // A carrier's standing, with its unfinished bid. Refused, in this order: never started, carrier number too large.
     pub fn standing(&self, carrier: usize) -> Result<Standing, Refusal>
-        ensures { result ≡ standing_answer carrier (S.meaning self.now.source) (tally_of self.now.books) }
+        ensures answered { result ≡ standing_answer carrier (S.meaning self.now.source) (tally_of self.now.books) }
+        ensures laws { Lawful (S.meaning self.now.source) (tally_of self.now.books) }
     {
         self.started()?.standing(carrier)
     }
 
     // The total worth of the jobs that are held. Refused if never started.
     pub fn worth(&self) -> Result<u64, Refusal>
-        ensures { result ≡ worth_answer (S.meaning self.now.source) (tally_of self.now.books) }
+        ensures answered { result ≡ worth_answer (S.meaning self.now.source) (tally_of self.now.books) }
+        ensures laws { Lawful (S.meaning self.now.source) (tally_of self.now.books) }
     {
         Ok(self.started()?.worth())
     }
 
     // The counts of summonses, awards, stale bids and outs. Refused if never started.
     pub fn counts(&self) -> Result<Counts, Refusal>
-        ensures { result ≡ counts_answer (S.meaning self.now.source) (tally_of self.now.books) }
+        ensures answered { result ≡ counts_answer (S.meaning self.now.source) (tally_of self.now.books) }
+        ensures laws { Lawful (S.meaning self.now.source) (tally_of self.now.books) }
     {
         Ok(self.started()?.counts())
     }
