@@ -47,7 +47,7 @@ replay_done m s calls i before after b l l' t a d =
           ∙ ap (λ z. answers_from m None calls ++ z) (d ∙ ap (λ n. drop n before) e);
       tallied = t';
       started = ap is_some t' ∙ started_exactly m calls;
-      lawful = λ q h. laws_hold m s calls q (sym t' ∙ h);
+      lawful = λ first rest e. laws_hold m s first;
       made = runs_made m s;
       undisturbed = never_stale m s;
     }

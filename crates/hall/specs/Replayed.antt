@@ -1,12 +1,11 @@
 -- What a replay promises of the answers and of the books, where the answers have room.
-use Rattle.std.specs.Prelude.{◌≡◌, List, ◌++◌, length, drop, is_some, Some, None, Option, Result}
+use Rattle.std.specs.Prelude.{◌≡◌, List, ◌++◌, length, drop, is_some, None, Option, Result}
 use Rattle.sources.specs.Meaning.{Meaning}
 use Rattle.refusals.specs.declared.Refusal.{Refusal}
 use Rattle.auction.specs.declared.call.Call.{Call}
 use Rattle.auction.specs.declared.call.Answer.{Answer}
-use Rattle.auction.specs.Tally.{Tally}
 use Rattle.auction.specs.Calls.{tally_after, answers_from, has_start}
-use Rattle.auction.specs.Laws.{AuctionLaws}
+use Rattle.auction.specs.Reached.{Lawful}
 use Rattle.auction.specs.MadeOf.{RunsMade}
 use Rattle.auction.specs.Undisturbed.{NeverStale}
 use Rattle.hall.specs.declared.books.Books.{Books}
@@ -18,7 +17,8 @@ pub record Replayed (m : Meaning) (calls : List Call) (before after : List (Resu
   pub tallied : tally_of b ≡ tally_after m calls
   -- It was started exactly if a start of the list was accepted.
   pub started : is_some (tally_of b) ≡ has_start m calls
-  pub lawful : (t : Tally) → tally_of b ≡ Some t → AuctionLaws m t
+  -- The laws hold after every first part of the list too, so that each of its questions is answered from a tally of which they hold.
+  pub lawful : (first rest : List Call) → calls ≡ first ++ rest → Lawful m (tally_after m first)
   -- Each run, of this list or another, is made of summonses, looks and settles that are accepted.
   pub made : RunsMade m
   -- A bid that no award came between is never stale. Said of any list of calls, so also of one in which the summonses, looks and settles of a run stand in its place.

@@ -1,5 +1,5 @@
 -- The two calls: what they answer, what they lead to, and that the pairing is then worth most.
-use Rattle.std.proofs.Common.{◌≡◌, ℕ, ◌+◌, ◌*◌, ◌^◌, ◌<◌, min, Bool, true, false, cond, ltb, ◌≢◌, List, length, get_or, set, Some, None, Ok, Err, Option, Result, sym, refl, ap, ◌∙◌, subst, ⊎_elim, mul-zero, arith, below_more}
+use Rattle.std.proofs.Common.{◌≡◌, ℕ, ◌+◌, ◌*◌, ◌^◌, ◌<◌, min, Bool, true, false, cond, ltb, ◌≢◌, List, [], length, get_or, set, Some, None, Ok, Err, Option, Result, sym, refl, ap, ◌∙◌, subst, ⊎_elim, mul-zero, arith, below_more}
 use Rattle.std.proofs.ByRecursion.{All-get_or}
 use Rattle.std.proofs.lemmas.List.{ext_get_or, get_or_past, get_or-set_other, get_or-set_same, length-map}
 use Rattle.std.proofs.lemmas.Bool.{cases_lt, cond_both, cond-true, lt-ltb}
@@ -100,7 +100,7 @@ module _ (m : Meaning) (n : ℕ) (is : n ≡ m.carriers) (before after : List (R
   tally_is = r.tallied ∙ ap (λ k. tally_after (times_of (k + 1) m) two_calls) is
 
   laws : (t : Tally) → auctioned m ≡ Some t → AuctionLaws (times_of (n + 1) m) t
-  laws t e = r.lawful t (tally_is ∙ e)
+  laws t e = r.lawful two_calls [] refl t (sym r.tallied ∙ tally_is ∙ e)
 
   first_is : (d : Result Answer Refusal) → get_or after 0 d ≡ told accepted (start_answer 1 8 (timed m))
   unfolding answer_to

@@ -28,7 +28,7 @@ loop-carrier-preserved g c t some =
     let i = c.loop-carrier.carrier in
     let b = c.replay.result.0.books in
     let r = c.replay.ensures.replayed (ap is_ok c.replay.ensures.fits) in
-    let told = c.standing.ensures ∙ ap (λ (s : Times (Bor g.row.S.Denot)). standing_answer i (times_of s.factor (g.S.Source.meaning s.below.now)) (tally_of b)) c.replay.ensures.kept
+    let told = c.standing.ensures.answered ∙ ap (λ (s : Times (Bor g.row.S.Denot)). standing_answer i (times_of s.factor (g.S.Source.meaning s.below.now)) (tally_of b)) c.replay.ensures.kept
     ∙ standing_told m n c.requires.each _ c.replay.new.answers b r t some i c.loop-carrier-test.true in
     elim c.match-standing.branch [
       | in-Ok w ↦
@@ -46,7 +46,7 @@ returns g c =
     let first = c.in_ok-answers.was in
     record {
       ends = ends_well m n c.requires.each _ c.replay.new.answers b r _ c.in_ok-answers.field-0 c.counts.result c.loop-carrier.standings first
-          (c.counts.ensures ∙ ap (λ (s : Times (Bor g.row.S.Denot)). counts_answer (times_of s.factor (g.S.Source.meaning s.below.now)) (tally_of b)) c.replay.ensures.kept)
+          (c.counts.ensures.answered ∙ ap (λ (s : Times (Bor g.row.S.Denot)). counts_answer (times_of s.factor (g.S.Source.meaning s.below.now)) (tally_of b)) c.replay.ensures.kept)
           c.loop-carrier.auto.standings (λ t some k inside. c.loop-carrier.invariant t some k (omega (arith, c.loop-carrier-test.false)));
       paired = pairs_well m n c.requires.each _ c.replay.new.answers b r;
     }
