@@ -1,5 +1,6 @@
 -- Prices only rise, so what is said of each standing and its row survives an award; and the winner is within a step of its best.
 use Rattle.std.proofs.Common.{◌≡◌, ℕ, ◌+◌, ◌<◌, ◌≤◌, false, List, length, get_or, set, pos, Some, None, Option, sym, refl, ap, ◌∙◌, ⊎_elim, arith}
+use mathlib.Core.Logic.{∥∥₁_map}
 use borrow.Author.Differences.{down, le_out}
 use Rattle.std.proofs.lemmas.Bool.{cases_eq, both_ways}
 use Rattle.sources.specs.Meaning.{Meaning, Sound, row_of, worth_in}
@@ -17,6 +18,7 @@ use Rattle.sources.proofs.Reading.{row_rising}
 use Rattle.auction.proofs.Rows.{job_in, worth_on, listed, by_entries}
 use Rattle.auction.proofs.Nets.{natural-up}
 use Rattle.auction.proofs.Matching.{holder_is, holder_of}
+use Rattle.auction.proofs.Finding.{rise_found}
 use Rattle.auction.proofs.Awards.{price_here, price_there, rises, each_after}
 use Rattle.auction.proofs.Invariant.{BestFits, BidFits, HeldFits, StandingFits, Fits, Invariant}
 
@@ -35,7 +37,7 @@ bid_rise ps qs rise row n r (Some x) g =
 fits_rise : (step : ℕ) (ps qs : List ℕ) → ((k : ℕ) → get_or ps k 0 ≤ get_or qs k 0) → (row : List (ℕ × ℕ)) (s : Standing) →
     ((h : Held) → s ≡ Served h → get_or qs h.job 0 ≡ get_or ps h.job 0) → StandingFits step ps row s → StandingFits step qs row s
 fits_rise step ps qs rise row Waiting same f = f
-fits_rise step ps qs rise row (Bidding b) same f = (f.0, bid_rise ps qs rise row b.looked b.runner_up b.best f.1)
+fits_rise step ps qs rise row (Bidding b) same f = (f.0, bid_rise ps qs rise row b.looked b.runner_up b.best f.1, ∥∥₁_map f.2 (rise_found ps qs rise row b))
 fits_rise step ps qs rise row (Served h) same f =
     let e = same h refl in let w = f.of_none in
     record { worth_is = f.worth_is; worthy = f.worthy; of_none = omega arith; of_best = λ j. let a = f.of_best j in let b = rise j in omega arith }

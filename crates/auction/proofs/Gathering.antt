@@ -73,7 +73,7 @@ module _ (ps : List ℕ) where
       go true = subst (λ z. Gathered r b.runner_up z b.best) (sym (append-nil all)) g
       go false = ranked_gathers r b b.best all (net_at ps e) g
 
-  folded_gathers : (r : ℕ) (es : List (ℕ × ℕ)) (b : Bid) (all : List Best) → Gathered r b.runner_up all b.best →
+  pub folded_gathers : (r : ℕ) (es : List (ℕ × ℕ)) (b : Bid) (all : List Best) → Gathered r b.runner_up all b.best →
       Gathered r (fold (weighed ps) b es).runner_up (all ++ nets_at ps es) (fold (weighed ps) b es).best
   folded_gathers r [] b all g = subst (λ z. Gathered r b.runner_up z b.best) (sym (append-nil all)) g
   folded_gathers r (e ∷ es) b all g =

@@ -8,6 +8,7 @@ use Rattle.auction.specs.declared.standing.Standing.{Standing}
 use Rattle.auction.specs.declared.standing.Standing.TheVariants.{Waiting, Bidding, Served, Out}
 use Rattle.auction.specs.Tally.{Tally, standing_at}
 use Rattle.auction.specs.Consistent.{Consistent}
+use Rattle.auction.specs.Found.{Found}
 use Rattle.auction.proofs.Rows.{job_in, worth_on}
 
 -- x is the best of the first entries of the row, and no other is worth more than its price and the runner-up r.
@@ -31,7 +32,7 @@ pub record HeldFits (step : ℕ) (ps : List ℕ) (row : List (ℕ × ℕ)) (h : 
 
 abbrev pub StandingFits : ℕ → List ℕ → List (ℕ × ℕ) → Standing → Type 0
 StandingFits step ps row Waiting = Unit {0}
-StandingFits step ps row (Bidding b) = (b.looked ≤ length row) × BidFits ps row b.looked b.runner_up b.best
+StandingFits step ps row (Bidding b) = (b.looked ≤ length row) × BidFits ps row b.looked b.runner_up b.best × ∥ Found ps row b ∥₁
 StandingFits step ps row (Served h) = HeldFits step ps row h
 StandingFits step ps row Out = (j : ℕ) → worth_in row j ≤ get_or ps j 0
 

@@ -1,5 +1,6 @@
 -- Start, summon, look and settle keep the invariant.
 use Rattle.std.proofs.Common.{◌≡◌, ℕ, ◌<◌, ◌≤◌, false, ltb, leb, length, replicate, pos, Some, None, Ok, Option, Result, sym, refl, ap, ◌∙◌, subst, ⊎_elim, arith}
+use mathlib.Core.Logic.{∥∥₁_map}
 use lib.Signed.{lt_z}
 use borrow.Author.Differences.{lt-true, lt-false}
 use Rattle.std.proofs.lemmas.Bool.{cases_eq, cond_both, ltb-true, leb-false}
@@ -24,6 +25,7 @@ use Rattle.auction.proofs.Nets.{natural-up, sides}
 use Rattle.auction.proofs.Standings.{each_stands}
 use Rattle.auction.proofs.Keeping.{limits_from_ok, opened_consistent, call_consistent, ended_consistent, settle_takes}
 use Rattle.auction.proofs.Invariant.{BidFits, StandingFits, Fits, Invariant}
+use Rattle.auction.proofs.Finding.{fresh_found, look_found}
 use Rattle.auction.proofs.LooksFit.{looked_fits}
 use Rattle.auction.proofs.AwardsFit.{awarded_fits}
 
@@ -51,11 +53,12 @@ module _ (m : Meaning) (sound : Sound m) where
     KeepsFit f r = Fits m (taken r f t)
 
     call_from : (act : Act) → i < m.carriers → (s : Standing) → standing_at t i ≡ s → KeepsFit (bids act i) (bid_after t.lanes t.prices (row_of m i) s act)
-    call_from Summon l Waiting e = stands_fits t inv i l (Bidding fresh) (counted Summon t.counts) (omega arith, λ k h. absurd (omega arith))
+    call_from Summon l Waiting e = stands_fits t inv i l (Bidding fresh) (counted Summon t.counts) (omega arith, λ k h. absurd (omega arith), ∣ fresh_found t.prices (row_of m i) ∣₁)
     call_from Look l (Bidding b) e =
         cond_both {A = Result Bid Refusal} (looked_all (row_of m i) b) _ _ (KeepsFit (bids Look i)) (λ _. inv.fits)
-        (λ _. stands_fits t inv i l (Bidding (looked_on t.lanes t.prices (row_of m i) b)) t.counts
-        (looked_fits t.prices (row_of m i) (row_rising m sound i) t.lanes b (subst (StandingFits t.step t.prices (row_of m i)) e (inv.fits i l))))
+        (λ _. let f = subst (StandingFits t.step t.prices (row_of m i)) e (inv.fits i l) in
+        let g = looked_fits t.prices (row_of m i) (row_rising m sound i) t.lanes b (f.0, f.1) in
+        stands_fits t inv i l (Bidding (looked_on t.lanes t.prices (row_of m i) b)) t.counts (g.0, g.1, ∥∥₁_map f.2 (look_found t.prices (row_of m i) t.lanes b)))
     call_from Settle l (Bidding b) e =
         cond_both {A = Result Bid Refusal} (looked_all (row_of m i) b) _ _ (KeepsFit (bids Settle i))
         (λ _. stands_fits t inv i l (Bidding b) t.counts (subst (StandingFits t.step t.prices (row_of m i)) e (inv.fits i l))) (λ _. inv.fits)

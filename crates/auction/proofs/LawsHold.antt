@@ -22,6 +22,7 @@ use Rattle.auction.specs.Tally.{Tally, price_at, holder_at, standing_at, is_serv
 use Rattle.auction.specs.Bids.{offer, judged_best}
 use Rattle.auction.specs.Rules.{verdict_in}
 use Rattle.auction.specs.Consistent.{BestSound, BidSound, StandingSound}
+use Rattle.auction.specs.Found.{Found}
 use Rattle.auction.specs.Laws.{Pairing, OpenBid, Slack, given_worth, worth_along, worth, job_served, ServedOrOut, pairing_of, served, Among, AuctionLaws}
 use Rattle.auction.proofs.Matching.{served_within, holder_of, holder_served}
 use Rattle.auction.proofs.Paid.{price_of, paid, paid_distinct, paid_covers}
@@ -250,6 +251,11 @@ module _ (m : Meaning) (sound : Sound m) (t : Tally) (law : Invariant m t) where
         bid_is = λ above. let p = lt_out (pos 0) x.net above in let o = natural-up x.net in let u = g.low_runner in omega (arith, p, z, o, u, low);
       }
 
+  found : (i : ℕ) (b : Bid) → standing_at t i ≡ Bidding b → ∥ Found t.prices (row_of m i) b ∥₁
+  found i b e =
+      let l = among i (λ o. both_ways (is_bidding (standing_at t i)) (ap is_bidding o) (ap is_bidding e)) in
+      (subst (StandingFits t.step t.prices (row_of m i)) e (law.fits i l)).2
+
   paid_is : (i : ℕ) (b : Bid) (x : Best) (a : Award) → standing_at t i ≡ Bidding b → b.best ≡ Some x → verdict_in t b ≡ Awarded a →
       (pos 0 <ℤ x.net) × (a ≡ record { job = x.job; price = offer t.step b.runner_up x; displaced = holder_at t x.job })
   paid_is i b x a e q v =
@@ -275,6 +281,7 @@ module _ (m : Meaning) (sound : Sound m) (t : Tally) (law : Invariant m t) where
     unsold = law.consistent.unheld;
     unmoved = unmoved;
     bid_is = bid_is;
+    found = found;
     paid_is = paid_is;
     balance = law.consistent.balanced;
     few_awards = few_awards m.carriers m.jobs m.ceiling t law.consistent;

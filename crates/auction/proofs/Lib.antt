@@ -7,6 +7,7 @@ pub mod Standings
 pub mod Awards
 pub mod Looks
 pub mod Gathering
+pub mod Finding
 pub mod Keeping
 pub mod Invariant
 pub mod LooksFit

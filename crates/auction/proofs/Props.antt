@@ -2,6 +2,7 @@
 use Prim.{IsProp}
 use mathlib.Core.Bool.{Bool-set}
 use mathlib.Core.HLevel.{Unit-prop}
+use mathlib.Core.Logic.{∥∥₁_prop}
 use Rattle.std.proofs.Common.{ℕ, ◌+◌, List, length, ℤ, pos, ◌≤ℤ◌, Some, None, count_by, Option}
 use native.Mathlib.Bridge.{le_prop}
 use native.Mathlib.Nat.{ℕ_set}
@@ -9,7 +10,6 @@ use lib.Dec.{T_prop}
 use lib.Signed.{le_z}
 use Rattle.sources.specs.Meaning.{Meaning, row_of, worth_in}
 use Rattle.auction.specs.declared.standing.Best.{Best}
-use Rattle.auction.specs.declared.standing.Held.{Held}
 use Rattle.auction.specs.declared.standing.Standing.{Standing}
 use Rattle.auction.specs.declared.standing.Standing.TheVariants.{Waiting, Bidding, Served, Out}
 use Rattle.auction.specs.Tally.{Tally, price_at, holder_at, standing_at, is_bidding, is_out, holds_job, is_holder}
@@ -78,7 +78,7 @@ bid_fits_prop ps row looked r (Some x) p q = best_fits_prop ps row looked r x p 
 
 standing_fits_prop : (step : ℕ) (ps : List ℕ) (row : List (ℕ × ℕ)) (s : Standing) → IsProp (StandingFits step ps row s)
 standing_fits_prop step ps row Waiting p q = Unit-prop p q
-standing_fits_prop step ps row (Bidding b) p q = λ i. (le_prop p.0 q.0 i, bid_fits_prop ps row b.looked b.runner_up b.best p.1 q.1 i)
+standing_fits_prop step ps row (Bidding b) p q = λ i. (le_prop p.0 q.0 i, bid_fits_prop ps row b.looked b.runner_up b.best p.1 q.1 i, ∥∥₁_prop p.2 q.2 i)
 standing_fits_prop step ps row (Served h) p q = λ i. record {
   worth_is = ℕ_set h.worth (worth_in row h.job) p.worth_is q.worth_is i;
   worthy = le_prop p.worthy q.worthy i;

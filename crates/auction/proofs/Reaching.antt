@@ -1,7 +1,7 @@
 -- What calls lead to, they and one call more lead to; and the laws hold of all that they lead to.
-use Rattle.std.proofs.Common.{◌≡◌, List, [], ◌∷◌, ◌++◌, None, Option, sym, refl, ap, ◌∙◌, subst}
+use Rattle.std.proofs.Common.{◌≡◌, [], ◌∷◌, ◌++◌, None, Option, sym, refl, ap, ◌∙◌}
 use Rattle.std.proofs.lemmas.List.Sums.{fold-append}
-use mathlib.Core.Logic.{∥∥₁_elim, ∥∥₁_prop}
+use mathlib.Core.Logic.{∥∥₁_elim, ∥∥₁_map}
 use Rattle.sources.specs.Meaning.{Meaning, Sound}
 use Rattle.auction.specs.declared.call.Call.{Call}
 use Rattle.auction.specs.Tally.{Tally}
@@ -19,7 +19,7 @@ reached_none m = ∣ ([], refl) ∣₁
 pub reached_more : (m : Meaning) (o p : Option Tally) (c : Call) → Reached m o → p ≡ tally_by m o c → Reached m p
 unfolding tally_from
 reached_more m o p c h e =
-    ∥∥₁_elim h ∥∥₁_prop (λ w. ∣ (w.0 ++ c ∷ [], fold-append (tally_by m) None w.0 (c ∷ []) ∙ ap (λ z. tally_by m z c) w.1 ∙ sym e) ∣₁)
+    ∥∥₁_map h (λ w. (w.0 ++ c ∷ [], fold-append (tally_by m) None w.0 (c ∷ []) ∙ ap (λ z. tally_by m z c) w.1 ∙ sym e))
 
 pub reached_laws : (m : Meaning) → Sound m → (o : Option Tally) → Reached m o → Lawful m o
 reached_laws m s o h t e = lawful_laws m s t (∥∥₁_elim h (invariant_prop m t) (λ w. invariant_after m s w.0 t (w.1 ∙ e)))

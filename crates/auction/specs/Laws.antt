@@ -1,6 +1,6 @@
 -- The laws of the auction, over pairings of carriers with jobs.
 use Rattle.std.specs.Prelude.{◌≡◌, ℕ, ◌+◌, ◌-◌, ◌*◌, ◌<◌, ◌≤◌, List, [], ◌∷◌, map, length, pos, ◌-ℤ◌, ◌<ℤ◌, Some, None, count_by, Option, ◌≢◌, slice_index_or, ◌↔◌}
-use Rattle.sources.specs.Meaning.{Meaning, worth_in, worth_of}
+use Rattle.sources.specs.Meaning.{Meaning, row_of, worth_in, worth_of}
 use Rattle.sources.specs.Layers.{times_of}
 use Rattle.auction.specs.declared.standing.Award.{Award}
 use Rattle.auction.specs.declared.standing.Best.{Best}
@@ -11,6 +11,7 @@ use Rattle.auction.specs.declared.standing.Standing.{Standing}
 use Rattle.auction.specs.declared.standing.Standing.TheVariants.{Waiting, Bidding, Served, Out}
 use Rattle.auction.specs.Tally.{Tally, price_at, holder_at, standing_at, is_served, is_bidding, total_worth}
 use Rattle.auction.specs.Bids.{natural, offer}
+use Rattle.auction.specs.Found.{Found}
 use Rattle.auction.specs.Rules.{verdict_in}
 
 -- Each carrier's job, if it has one: its worth is above 0, and no job is given twice.
@@ -92,6 +93,8 @@ pub record AuctionLaws (m : Meaning) (t : Tally) : Type 0 where
   pub unmoved : (i : ℕ) (b : Bid) (x : Best) → standing_at t i ≡ Bidding b → b.best ≡ Some x → pos x.worth -ℤ pos (price_at t x.job) ≡ x.net → verdict_in t b ≢ Stale
   -- A bid is the price seen plus the best net, minus the runner-up, plus the step.
   pub bid_is : (i : ℕ) (b : Bid) (x : Best) → standing_at t i ≡ Bidding b → b.best ≡ Some x → OpenBid m t i b x
+  -- Its best and its runner-up are those of all the nets that it has seen, over all its looks, each at a price that has not fallen since.
+  pub found : (i : ℕ) (b : Bid) → standing_at t i ≡ Bidding b → ∥ Found t.prices (row_of m i) b ∥₁
   -- Only for a best net above 0 is a job awarded, and it then costs what was bid; its former holder is displaced.
   pub paid_is : (i : ℕ) (b : Bid) (x : Best) (a : Award) → standing_at t i ≡ Bidding b → b.best ≡ Some x → verdict_in t b ≡ Awarded a →
       (pos 0 <ℤ x.net) × (a ≡ record { job = x.job; price = offer t.step b.runner_up x; displaced = holder_at t x.job })

@@ -3,6 +3,7 @@ pub mod Bids
 pub mod Rules
 pub mod Consistent
 pub mod Looks
+pub mod Found
 pub mod Shown
 pub mod Runs
 pub mod InOrder
