@@ -46,7 +46,7 @@ module _ (ps : List ℕ) where
   unrisen (e ∷ es) = (omega arith, unrisen es)
 
 -- The first k, and n more.
-taken_on : {X : Type 0} (xs : List X) (k n : ℕ) → k ≤ length xs → take (k + length (take n (drop k xs))) xs ≡ take k xs ++ take n (drop k xs)
+pub taken_on : {X : Type 0} (xs : List X) (k n : ℕ) → k ≤ length xs → take (k + length (take n (drop k xs))) xs ≡ take k xs ++ take n (drop k xs)
 taken_on xs k n l =
     let more = take n (drop k xs) in
     let whole : (take k xs ++ more) ++ drop n (drop k xs) ≡ xs =

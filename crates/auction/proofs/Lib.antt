@@ -21,5 +21,6 @@ pub mod Started
 pub mod CallsKeep
 pub mod MadeOf
 pub mod Undisturbed
+pub mod Sequential
 pub mod Props
 pub mod Reaching

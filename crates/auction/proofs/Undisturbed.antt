@@ -30,7 +30,7 @@ use Rattle.auction.proofs.Invariant.{Invariant}
 use Rattle.auction.proofs.InvariantKept.{call_keeps, settle_keeps}
 use Rattle.auction.proofs.CallsKeep.{Holds, call_holds, invariant_after}
 
-counted_awards : (act : Act) (n : Counts) → (counted act n).awards ≡ n.awards
+pub counted_awards : (act : Act) (n : Counts) → (counted act n).awards ≡ n.awards
 counted_awards Summon n = refl
 counted_awards Look n = refl
 counted_awards Settle n = refl

@@ -11,4 +11,5 @@ pub mod Calls
 pub mod MadeOf
 pub mod Laws
 pub mod Undisturbed
+pub mod Sequential
 pub mod Reached

@@ -11,6 +11,7 @@ use Rattle.auction.specs.Calls.{answer_to, tally_by, tally_from, tally_after, an
 use Rattle.auction.proofs.CallsKeep.{laws_hold}
 use Rattle.auction.proofs.MadeOf.{runs_made}
 use Rattle.auction.proofs.Undisturbed.{never_stale}
+use Rattle.auction.proofs.Sequential.{settles_alone}
 use Rattle.auction.proofs.Started.{started_exactly}
 use Rattle.hall.specs.declared.books.Books.{Books}
 use Rattle.hall.specs.InBooks.{tally_of}
@@ -50,6 +51,7 @@ replay_done m s calls i before after b l l' t a d =
       lawful = λ first rest e. laws_hold m s first;
       made = runs_made m s;
       undisturbed = never_stale m s;
+      sequential = settles_alone m s;
     }
 
 -- ---- the same, where the hall's source is known to be the one that was given

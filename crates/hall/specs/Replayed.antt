@@ -8,6 +8,7 @@ use Rattle.auction.specs.Calls.{tally_after, answers_from, has_start}
 use Rattle.auction.specs.Reached.{Lawful}
 use Rattle.auction.specs.MadeOf.{RunsMade}
 use Rattle.auction.specs.Undisturbed.{NeverStale}
+use Rattle.auction.specs.Sequential.{SettlesAlone}
 use Rattle.hall.specs.declared.books.Books.{Books}
 use Rattle.hall.specs.InBooks.{tally_of}
 
@@ -23,3 +24,5 @@ pub record Replayed (m : Meaning) (calls : List Call) (before after : List (Resu
   pub made : RunsMade m
   -- A bid that no award came between is never stale. Said of any list of calls, so also of one in which the summonses, looks and settles of a run stand in its place.
   pub undisturbed : NeverStale m
+  -- And it is settled as in the sequential auction, in which a carrier looks at its whole row at once.
+  pub sequential : SettlesAlone m
