@@ -22,8 +22,10 @@ use Rattle.auction.specs.Tally.{Tally, price_at, holder_at, standing_at, is_serv
 use Rattle.auction.specs.Bids.{offer, judged_best}
 use Rattle.auction.specs.Rules.{verdict_in}
 use Rattle.auction.specs.Consistent.{BestSound, BidSound, StandingSound}
+use Rattle.auction.specs.Looks.{net_at}
 use Rattle.auction.specs.Found.{Found}
 use Rattle.auction.specs.Laws.{Pairing, OpenBid, Slack, given_worth, worth_along, worth, job_served, ServedOrOut, pairing_of, served, Among, AuctionLaws}
+use Rattle.auction.proofs.Rows.{job_in, worth_on}
 use Rattle.auction.proofs.Matching.{served_within, holder_of, holder_served}
 use Rattle.auction.proofs.Paid.{price_of, paid, paid_distinct, paid_covers}
 use Rattle.auction.proofs.Nets.{sides, net_is, natural-up}
@@ -219,24 +221,27 @@ module _ (m : Meaning) (sound : Sound m) (t : Tally) (law : Invariant m t) where
   bid_sound : (i : ℕ) (b : Bid) (x : Best) → standing_at t i ≡ Bidding b → b.best ≡ Some x → BestSound m.jobs m.ceiling b.runner_up x
   bid_sound i b x e q = subst (BidSound m.jobs m.ceiling b.runner_up) q (subst (StandingSound m.jobs m.ceiling) e (law.consistent.sound i))
 
-  unmoved : (i : ℕ) (b : Bid) (x : Best) → standing_at t i ≡ Bidding b → b.best ≡ Some x → pos x.worth -ℤ pos (price_at t x.job) ≡ x.net → verdict_in t b ≡ Stale → ⊥
-  unmoved i b x e q n v =
-      never (bid_sound i b x e q) (sym (ap (judged_best t.step t.prices t.holders b.runner_up) q) ∙ v)
+  -- The best of a stale bid costs more than when it was seen.
+  risen : (i : ℕ) (b : Bid) (x : Best) → standing_at t i ≡ Bidding b → b.best ≡ Some x → verdict_in t b ≡ Stale → x.worth + down x.net < price_at t x.job + up x.net
+  risen i b x e q v =
+      cond_both {A = Verdict} (lt_z (pos 0) x.net) _ _ (λ w. w ≡ Stale → Risen)
+      (λ above. cond_both {A = Verdict} (leb (offer t.step b.runner_up x) (price_at t x.job)) _ _ (λ w. w ≡ Stale → Risen)
+      (λ low _. let a = leb-true (offer t.step b.runner_up x) (price_at t x.job) low in let p = lt-true (pos 0) x.net above in
+      let u = (bid_sound i b x e q).low_runner in let y = natural-up x.net in let z = sides x.net in let st = law.consistent.limits.some_step in omega (arith, a, p, u, y, z, st))
+      (λ _ c. absurd (stale_not _ refl c)))
+      (λ _ c. absurd (stale_not _ refl c))
+      (sym (ap (judged_best t.step t.prices t.holders b.runner_up) q) ∙ v)
     where
+      Risen : Type 0
+      Risen = x.worth + down x.net < price_at t x.job + up x.net
+
       stale_not : (w : Verdict) → is_stale w ≡ false → w ≡ Stale → ⊥
       stale_not w a c = both_ways (is_stale w) a (ap is_stale c)
 
-      never : BestSound m.jobs m.ceiling b.runner_up x → judged_best t.step t.prices t.holders b.runner_up (Some x) ≡ Stale → ⊥
-      never g =
-          cond_both {A = Verdict} (lt_z (pos 0) x.net) _ _ (λ w. w ≡ Stale → ⊥)
-          (λ up'. cond_both {A = Verdict} (leb (offer t.step b.runner_up x) (price_at t x.job)) _ _ (λ w. w ≡ Stale → ⊥)
-          (λ low _. let a = leb-true (offer t.step b.runner_up x) (price_at t x.job) low in
-          let p = lt-true (pos 0) x.net up' in let u = g.low_runner in let y = natural-up x.net in let z = sides x.net in let st = law.consistent.limits.some_step in
-          let w = net_is x.worth (price_at t x.job) in
-          let w' : up x.net + price_at t x.job ≡ x.worth + down x.net = subst (λ z. up z + price_at t x.job ≡ x.worth + down z) n w in
-          omega (arith, a, p, u, y, z, st, w'))
-          (λ _. stale_not _ refl))
-          (λ _. stale_not _ refl)
+  unmoved : (i : ℕ) (b : Bid) (x : Best) → standing_at t i ≡ Bidding b → b.best ≡ Some x → pos x.worth -ℤ pos (price_at t x.job) ≡ x.net → verdict_in t b ≡ Stale → ⊥
+  unmoved i b x e q n v =
+      let r = risen i b x e q v in
+      let w : up x.net + price_at t x.job ≡ x.worth + down x.net = subst (λ z. up z + price_at t x.job ≡ x.worth + down z) n (net_is x.worth (price_at t x.job)) in omega (arith, r, w)
 
   bid_is : (i : ℕ) (b : Bid) (x : Best) → standing_at t i ≡ Bidding b → b.best ≡ Some x → OpenBid m t i b x
   bid_is i b x e q =
@@ -249,6 +254,9 @@ module _ (m : Meaning) (sound : Sound m) (t : Tally) (law : Invariant m t) where
         net_is = same_in x.net (pos x.worth -ℤ pos (x.worth + down x.net - up x.net)) (let w = net_is x.worth (x.worth + down x.net - up x.net) in omega (arith, low, z, w));
         risen = omega (arith, f.seen);
         bid_is = λ above. let p = lt_out (pos 0) x.net above in let o = natural-up x.net in let u = g.low_runner in omega (arith, p, z, o, u, low);
+        stale_why = λ v. let r = risen i b x e q v in omega (arith, r, low, z);
+        conservative = λ k h ne. let o = f.others k h ne in let n = natural-up (net_at t.prices (get_or (row_of m i) k (0, 0))).net in
+            let w = net_is (worth_on (row_of m i) k) (price_at t (job_in (row_of m i) k)) in let s = sides (net_at t.prices (get_or (row_of m i) k (0, 0))).net in omega (arith, o, n, w, s);
       }
 
   found : (i : ℕ) (b : Bid) → standing_at t i ≡ Bidding b → ∥ Found t.prices (row_of m i) b ∥₁

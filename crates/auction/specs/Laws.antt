@@ -11,6 +11,7 @@ use Rattle.auction.specs.declared.standing.Standing.{Standing}
 use Rattle.auction.specs.declared.standing.Standing.TheVariants.{Waiting, Bidding, Served, Out}
 use Rattle.auction.specs.Tally.{Tally, price_at, holder_at, standing_at, is_served, is_bidding, total_worth}
 use Rattle.auction.specs.Bids.{natural, offer}
+use Rattle.auction.specs.Looks.{net_at}
 use Rattle.auction.specs.Found.{Found}
 use Rattle.auction.specs.Rules.{verdict_in}
 
@@ -72,6 +73,11 @@ pub record OpenBid (m : Meaning) (t : Tally) (i : ℕ) (b : Bid) (x : Best) : Ty
   pub net_is : x.net ≡ pos x.worth -ℤ pos seen
   pub risen : seen ≤ price_at t x.job
   pub bid_is : pos 0 <ℤ x.net → offer t.step b.runner_up x + b.runner_up ≡ seen + natural x.net + t.step
+  -- It is judged stale only if the best job costs more now than when it was seen.
+  pub stale_why : verdict_in t b ≡ Stale → seen < price_at t x.job
+  -- Were the runner-up the net, at the prices now, of any other entry that was looked at, no less would be bid.
+  pub conservative : (k : ℕ) → k < b.looked → (slice_index_or (row_of m i) k (0, 0)).0 ≢ x.job →
+      offer t.step b.runner_up x ≤ offer t.step (natural (net_at t.prices (slice_index_or (row_of m i) k (0, 0))).net) x
 
 pub record AuctionLaws (m : Meaning) (t : Tally) : Type 0 where
   -- What the hall gives is a pairing, and the total worth that it tells is that pairing's.
