@@ -19,8 +19,11 @@ pub mod Queues
 pub mod Steps
 pub mod Started
 pub mod CallsKeep
-pub mod MadeOf
 pub mod Undisturbed
 pub mod Sequential
 pub mod Props
 pub mod Reaching
+pub mod Acts
+pub mod InTurn
+pub mod InRounds
+pub mod MadeOf

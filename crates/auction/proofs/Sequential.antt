@@ -125,34 +125,40 @@ settle_looked lanes ps row (Bidding a) b e =
 settle_looked lanes ps row (Served h) b e = absurd (false≢true cc)
 settle_looked lanes ps row Out b e = absurd (false≢true cc)
 
-module _ (m : Meaning) (sound : Sound m) (n i : ℕ) where
-  -- What the open bid of carrier k has seen, it has seen at these prices.
-  abbrev SeenAt : ℕ → List ℕ → Standing → Type 0
-  SeenAt k ps Waiting = Unit {0}
-  SeenAt k ps (Bidding b) = Gathered 0 b.runner_up (nets_at ps (take b.looked (row_of m k))) b.best
-  SeenAt k ps (Served h) = Unit {0}
-  SeenAt k ps Out = Unit {0}
+-- What the open bid of carrier k has seen, it has seen at these prices.
+abbrev pub SeenAt : Meaning → ℕ → List ℕ → Standing → Type 0
+SeenAt m k ps Waiting = Unit {0}
+SeenAt m k ps (Bidding b) = Gathered 0 b.runner_up (nets_at ps (take b.looked (row_of m k))) b.best
+SeenAt m k ps (Served h) = Unit {0}
+SeenAt m k ps Out = Unit {0}
 
+pub idle_seen : (m : Meaning) (k : ℕ) (ps : List ℕ) (s : Standing) → is_bidding s ≡ false → SeenAt m k ps s
+idle_seen m k ps Waiting e = tt
+idle_seen m k ps (Bidding b) e = absurd (both_ways true e refl)
+idle_seen m k ps (Served h) e = tt
+idle_seen m k ps Out e = tt
+
+module _ (m : Meaning) (sound : Sound m) (n i : ℕ) where
   -- There are n awards at least; and while there are n, carrier i's bid has seen the prices now.
   pub record Steady (t : Tally) : Type 0 where
     pub fewest : n ≤ t.counts.awards
-    pub seen : t.counts.awards ≡ n → SeenAt i t.prices (standing_at t i)
+    pub seen : t.counts.awards ≡ n → SeenAt m i t.prices (standing_at t i)
 
   stands-steady : (t : Tally) → Invariant m t → Steady t → (k : ℕ) → k < m.carriers → (s : Standing) (c : Counts) → c.awards ≡ t.counts.awards →
-      (k ≡ i → t.counts.awards ≡ n → SeenAt k t.prices s) → Steady (stands k s c t)
+      (k ≡ i → t.counts.awards ≡ n → SeenAt m k t.prices s) → Steady (stands k s c t)
   stands-steady t inv f k l s c same new = record {
     fewest = omega (arith, same, f.fewest);
     seen = λ e. let now = sym same ∙ e in
-        each_stands (λ a q. a ≡ i → SeenAt a t.prices q) t k s c (let z = inv.consistent.standings_sized in omega arith) (λ q. new q now) i (λ _. f.seen now) refl;
+        each_stands (λ a q. a ≡ i → SeenAt m a t.prices q) t k s c (let z = inv.consistent.standings_sized in omega arith) (λ q. new q now) i (λ _. f.seen now) refl;
   }
 
   module _ (t : Tally) (inv : Invariant m t) (f : Steady t) (k : ℕ) (l : k < m.carriers) where
     abbrev SeenBy : Result Bid Refusal → Type 0
-    SeenBy (Ok b) = k ≡ i → t.counts.awards ≡ n → SeenAt k t.prices (Bidding b)
+    SeenBy (Ok b) = k ≡ i → t.counts.awards ≡ n → SeenAt m k t.prices (Bidding b)
     SeenBy (Err e) = Unit {0}
 
     seen_here : (b : Bid) → standing_at t k ≡ Bidding b → SeenBy (Ok b)
-    seen_here b e q now = subst (SeenAt k t.prices) e (subst (λ a. SeenAt a t.prices (standing_at t a)) (sym q) (f.seen now))
+    seen_here b e q now = subst (SeenAt m k t.prices) e (subst (λ a. SeenAt m a t.prices (standing_at t a)) (sym q) (f.seen now))
 
     bid_sees : (act : Act) (s : Standing) → standing_at t k ≡ s → SeenBy (bid_after t.lanes t.prices (row_of m k) s act)
     bid_sees Summon Waiting e = λ q now. (refl, refl)
@@ -179,7 +185,7 @@ module _ (m : Meaning) (sound : Sound m) (n i : ℕ) where
     ended-steady w Stale = stands-steady t inv f k l Waiting (counted_stale t.counts) refl (λ _ _. tt)
     ended-steady w (Awarded a) = record { fewest = omega (arith, f.fewest); seen = λ e. absurd (omega (arith, f.fewest, e)) }
 
-  call_steady : (t : Tally) → Invariant m t → Steady t → (k : ℕ) (act : Act) → Steady (called m k act t)
+  pub call_steady : (t : Tally) → Invariant m t → Steady t → (k : ℕ) (act : Act) → Steady (called m k act t)
   unfolding bid_at
   call_steady t inv f k act =
       cond_both {A = Result Bid Refusal} (ltb k m.carriers) _ _ (λ r. Steady (taken r (bids act k) t))
@@ -200,7 +206,7 @@ module _ (m : Meaning) (sound : Sound m) (n i : ℕ) where
       (call_holds m Both (λ t k act p. (call_keeps m sound t p.0 k act, call_steady t p.0 p.1 k act)) (λ t k p. (settle_keeps m sound t p.0 k, settle_steady t p.0 p.1 k)) o c
       (λ step lanes e ok. absurd (both_ways (is_start m c) parts.0 (ap (is_start m) e ∙ ap is_ok ok))) h)
 
-  settles : (t : Tally) → Invariant m t → SeenAt i t.prices (standing_at t i) → (v : Verdict) → settle_answer i m (Some t) ≡ Ok v → Sequential t (row_of m i) v
+  pub settles : (t : Tally) → Invariant m t → SeenAt m i t.prices (standing_at t i) → (v : Verdict) → settle_answer i m (Some t) ≡ Ok v → Sequential t (row_of m i) v
   unfolding bid_at
   settles t inv seen v =
       cond_both {A = Result Bid Refusal} (ltb i m.carriers) _ _ (λ r. verdict_from t r ≡ Ok v → Sequential t (row_of m i) v) (λ _. ends _ refl) (λ _ e. absurd (false≢true cc))
@@ -212,18 +218,12 @@ module _ (m : Meaning) (sound : Sound m) (n i : ℕ) where
           let is : verdict_in t b ≡ v = cc in
           subst (Sequential t (row_of m i)) is
           (judged_so t (row_of m i) m.jobs m.ceiling b.runner_up inv.consistent.limits.some_step b.best
-          (subst (λ es. Gathered 0 b.runner_up (nets_at t.prices es) b.best) whole (subst (SeenAt i t.prices) stood seen))
+          (subst (λ es. Gathered 0 b.runner_up (nets_at t.prices es) b.best) whole (subst (SeenAt m i t.prices) stood seen))
           (subst (StandingSound m.jobs m.ceiling) stood (inv.consistent.sound i)))
       ends (Err x) e q = absurd (false≢true cc)
 
-  idle_seen : (ps : List ℕ) (s : Standing) → is_bidding s ≡ false → SeenAt i ps s
-  idle_seen ps Waiting e = tt
-  idle_seen ps (Bidding b) e = absurd (both_ways true e refl)
-  idle_seen ps (Served h) e = tt
-  idle_seen ps Out e = tt
-
 pub settles_alone : (m : Meaning) → Sound m → SettlesAlone m
 settles_alone m sound before behind i t t' v was idle none now same =
-    let begun : Both m sound t.counts.awards i t = (invariant_after m sound before t was, record { fewest = omega arith; seen = λ _. idle_seen m sound t.counts.awards i t.prices (standing_at t i) idle }) in
+    let begun : Both m sound t.counts.awards i t = (invariant_after m sound before t was, record { fewest = omega arith; seen = λ _. idle_seen m i t.prices (standing_at t i) idle }) in
     let after : Both m sound t.counts.awards i t' = subst (Holds (Both m sound t.counts.awards i)) now (calls_steady m sound t.counts.awards i (Some t) behind none begun) in
     settles m sound t.counts.awards i t' after.0 (after.1.seen same) v

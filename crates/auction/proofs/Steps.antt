@@ -329,7 +329,7 @@ module _ (m : Meaning) where
   line_length : (r : RunState) → Ordered m r → length r.line ≡ count_by is_waiting r.tally.standings
   line_length r law = times_count is_waiting refl (λ z. z) r.line r.tally.standings law.waits
 
-  flight_length : (r : RunState) → Ordered m r → length r.flight ≡ count_by is_bidding r.tally.standings
+  pub flight_length : (r : RunState) → Ordered m r → length r.flight ≡ count_by is_bidding r.tally.standings
   flight_length r law = times_count is_bidding refl (λ f. f.carrier) r.flight r.tally.standings law.bids
 
   -- Done exactly if line and flight are empty.

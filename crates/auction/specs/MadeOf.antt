@@ -1,15 +1,20 @@
 -- What a run is made of, said by calls: no line and no flight.
-use Rattle.std.specs.Prelude.{◌≡◌, ℕ, true, List, map, length, is_ok, Some, Ok}
+use Rattle.std.specs.Prelude.{◌≡◌, ℕ, ◌≤◌, max, true, List, [], ◌∷◌, ◌++◌, map, length, replicate, is_ok, Some, Ok, Contains, flat_map, ◌≢◌}
 use Rattle.std.specs.List.{AllByRecursion}
-use Rattle.sources.specs.Meaning.{Meaning}
+use Rattle.sources.specs.Meaning.{Meaning, row_of}
 use Rattle.auction.specs.declared.standing.Act.{Act}
 use Rattle.auction.specs.declared.standing.Act.TheVariants.{Summon as Summons, Look as Looks, Settle as Settles}
 use Rattle.auction.specs.declared.standing.Report.{Report}
+use Rattle.auction.specs.declared.standing.Standing.TheVariants.{Waiting}
+use Rattle.auction.specs.declared.standing.Verdict.{Verdict}
 use Rattle.auction.specs.declared.call.Call.{Call}
 use Rattle.auction.specs.declared.call.Call.TheVariants.{Summon, Look, Settle}
-use Rattle.auction.specs.Tally.{Tally}
-use Rattle.auction.specs.Runs.{run_answer, run_tally}
+use Rattle.auction.specs.Tally.{Tally, standing_at}
+use Rattle.auction.specs.Rules.{settle_answer}
+use Rattle.auction.specs.Runs.{looks_for, run_answer, run_tally}
 use Rattle.auction.specs.Calls.{tally_from, tally_after, answers_from}
+use Rattle.auction.specs.Laws.{bidding}
+use Rattle.auction.specs.Sequential.{Sequential}
 
 -- The call on carrier i.
 abbrev pub act_call : Act → ℕ → Call
@@ -20,16 +25,40 @@ act_call Settles i = Settle i
 abbrev pub calls_of : List (Act × ℕ) → List Call
 calls_of acts = map (λ a. act_call a.0 a.1) acts
 
--- A run is as many summonses, looks and settles, each accepted, as it tells steps: made one after the other, they lead to the tally after it.
-pub record MadeOf (m : Meaning) (before after : Tally) (steps : ℕ) : Type 0 where
+-- Made one after the other, the acts lead from one tally to the other.
+abbrev pub LeadsTo : Meaning → Tally → List (Act × ℕ) → Tally → Type 0
+LeadsTo m before acts after = tally_from m (Some before) (calls_of acts) ≡ Some after
+
+-- A carrier's round: it is summoned, looks at its whole row, and settles.
+abbrev pub round : Meaning → ℕ → ℕ → List (Act × ℕ)
+round m lanes i = (Summons, i) ∷ replicate (looks_for lanes (length (row_of m i))) (Looks, i) ++ (Settles, i) ∷ []
+
+-- One carrier after the other: the acts are rounds, the last of which may be cut off, and each carrier settles as in the sequential auction, at the prices then.
+pub record InRounds (m : Meaning) (before : Tally) (acts : List (Act × ℕ)) : Type 0 where
+  -- Whose rounds they are.
+  pub carriers : List ℕ
+  pub cut_off : List (Act × ℕ)
+  pub rounds : acts ++ cut_off ≡ flat_map (round m before.lanes) carriers
+  pub settles : (first rest : List (Act × ℕ)) (i : ℕ) (t : Tally) (v : Verdict) → acts ≡ first ++ (Settles, i) ∷ rest → LeadsTo m before first t →
+      settle_answer i m (Some t) ≡ Ok v → Sequential t (row_of m i) v
+
+-- A run is as many summonses, looks and settles, each accepted, as it tells steps, and they lead to the tally after it.
+pub record MadeOf (m : Meaning) (depth : ℕ) (before after : Tally) (p : Report) : Type 0 where
   -- Each with its carrier.
   pub acts : List (Act × ℕ)
-  pub counted : length acts ≡ steps
+  pub counted : length acts ≡ p.steps
   pub accepted : AllByRecursion (λ r. is_ok r ≡ true) (answers_from m (Some before) (calls_of acts))
-  pub led : tally_from m (Some before) (calls_of acts) ≡ Some after
+  pub led : LeadsTo m before acts after
+  -- At no point are more bids open than the depth, or than before the run.
+  pub narrow : (first rest : List (Act × ℕ)) (t : Tally) → acts ≡ first ++ rest → LeadsTo m before first t → bidding t ≤ max depth (bidding before)
+  -- First in, first out: whoever waits is summoned before whoever does not wait yet. So nobody overtakes a waiting carrier twice.
+  pub in_turn : (first between rest : List (Act × ℕ)) (i k : ℕ) (t : Tally) → acts ≡ first ++ between ++ (Summons, k) ∷ rest → LeadsTo m before first t →
+      standing_at t i ≡ Waiting → standing_at t k ≢ Waiting → Contains between (Summons, i)
+  -- At depth 1 and begun with no open bid, it is the sequential auction, and no bid is stale.
+  pub sequential : depth ≡ 1 → bidding before ≡ 0 → InRounds m before acts × (p.counts.stales ≡ 0)
 
 -- So is every accepted run, whatever calls came before it.
 abbrev pub RunsMade : Meaning → Type 0
 RunsMade m =
     (calls : List Call) (depth budget : ℕ) (t u : Tally) (p : Report) → tally_after m calls ≡ Some t → run_answer depth budget m (Some t) ≡ Ok p →
-    run_tally depth budget m (Some t) ≡ Some u → MadeOf m t u p.steps
+    run_tally depth budget m (Some t) ≡ Some u → MadeOf m depth t u p

@@ -1,5 +1,5 @@
 -- What the calls of a run leave, where the books noted what the source means.
-use Rattle.std.proofs.Common.{◌≡◌, ℕ, zero, suc, ◌+◌, ◌-◌, ◌<◌, ◌≤◌, Bool, true, false, cond, ◌&&◌, eqb, ltb, List, [], ◌∷◌, ◌++◌, length, get_or, take, Some, Ok, Result, sym, refl, ap, ◌∙◌, subst, arith}
+use Rattle.std.proofs.Common.{◌≡◌, ℕ, zero, suc, ◌+◌, ◌-◌, ◌<◌, ◌≤◌, Bool, true, false, cond, ◌&&◌, eqb, ltb, List, [], ◌∷◌, ◌++◌, length, get_or, take, Some, Ok, Err, IfOk, Option, Result, sym, refl, ap, ◌∙◌, subst, arith}
 use Rattle.std.proofs.lemmas.List.{take_more, length-take-le}
 use Rattle.std.proofs.lemmas.Bool.{and_parts, and_left, both_ways, eqb-true, ne_eqb, lt-ltb, cond-true}
 use Rattle.sources.specs.Meaning.{Meaning, Sound, row_of}
@@ -17,14 +17,15 @@ use Rattle.auction.specs.Rules.{between}
 use Rattle.auction.specs.Runs.{RunState, gathered, if_waiting, if_bidding, beginning, first_acts, step_by, one_step, many_steps, ending_of, since, report_of, run_report, Reports, run_answer, ran, run_tally}
 use Rattle.auction.specs.InOrder.{Ordered, Grown}
 use Rattle.auction.specs.MadeOf.{MadeOf}
+use Rattle.auction.specs.Reached.{Reached}
 use Rattle.sources.proofs.Reading.{row_length}
 use Rattle.auction.proofs.Queues.{gathered_more, gathered_short}
 use Rattle.auction.proofs.Steps.{room_enough, ending_is, begins_ordered, step_ordered, steps_grow, idle_steps, run_reports}
-use Rattle.auction.proofs.MadeOf.{run_made}
+use Rattle.auction.proofs.MadeOf.{reached_made}
 use Rattle.rings.specs.Held.{held}
 use Rattle.hall.specs.declared.books.Books.{Books}
 use Rattle.hall.specs.declared.books.queues.Queues.{Queues}
-use Rattle.hall.specs.InBooks.{NotedOf, tally_in}
+use Rattle.hall.specs.InBooks.{NotedOf, Between, tally_in, tally_of}
 use Rattle.hall.specs.Ruled.{Ruled}
 use Rattle.hall.specs.RunSteps.{state_of, Became}
 use Rattle.hall.proofs.Tables.{consistent_in, renoted}
@@ -172,8 +173,17 @@ module _ (m : Meaning) (sound : Sound m) (depth budget : ℕ) (old new : Books) 
       (subst (λ z. Reports budget (tally_in old) z.tally (run_report (tally_in old) (many_steps m depth budget (beginning m (tally_in old))))) (sym made)
       (run_reports m sound depth deep budget (beginning m (tally_in old)) refl (consistent_for m old was) (begins_ordered m (tally_in old))))
 
-  pub run_is_made : MadeOf m (tally_in old) (tally_in new) report.steps
-  run_is_made = subst (λ z. MadeOf m (tally_in old) z.tally z.steps) (sym made) (run_made m sound depth budget (tally_in old) (consistent_for m old was))
+-- From books that calls lead to, an accepted run is made of summonses, looks and settles.
+pub run_is_made : (m : Meaning) → Sound m → (depth budget : ℕ) (o : Option Books) (old new : Books) (r : Result Report Refusal) → o ≡ Some old → Reached m (tally_of o) →
+    Ruled (run_answer depth budget) (run_tally depth budget) m (Some old) (Some new) r → IfOk r (λ p. Between (λ t u. MadeOf m depth t u p) (tally_of o) (tally_of (Some new)))
+run_is_made m sound depth budget o old new (Ok p) found reached ruled = record {
+  before = tally_in old;
+  after = tally_in new;
+  was = ap tally_of found;
+  is = refl;
+  holds = reached_made m sound depth budget (tally_in old) (tally_in new) p (subst (λ z. Reached m (tally_of z)) found reached) (sym ruled.answered) (sym ruled.tallied);
+}
+run_is_made m sound depth budget o old new (Err e) found reached ruled = tt
 
 -- No count has fallen.
 pub run_grown : (m : Meaning) (depth budget : ℕ) (old new : Books) (q q' : Queues) (steps : ℕ) →

@@ -92,7 +92,7 @@ impl<S: Source> Hall<S> {
     pub fn run(&mut self, depth: usize, budget: u64) -> Result<Report, Refusal>
         ensures ruled { Ruled (run_answer depth budget) (run_tally depth budget) (S.meaning self.old.source) self.old.books self.new.books result }
         ensures reported { IfOk result (λ p. Between (λ t u. Reports budget t u p) (tally_of self.old.books) (tally_of self.new.books)) }
-        ensures made { IfOk result (λ p. Between (λ t u. MadeOf (S.meaning self.old.source) t u p.steps) (tally_of self.old.books) (tally_of self.new.books)) }
+        ensures made { IfOk result (λ p. Between (λ t u. MadeOf (S.meaning self.old.source) depth t u p) (tally_of self.old.books) (tally_of self.new.books)) }
         ensures kept { self.new.source ≡ self.old.source }
     {
         self.books

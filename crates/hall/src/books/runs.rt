@@ -3,7 +3,6 @@ ghost use Rattle.std.specs.Prelude.{◌≡◌, ◌+◌, ◌<◌, ◌≤◌, true
 ghost use Rattle.rings.specs.Held.{held};
 ghost use Rattle.auction.specs.Runs.{looks_for, since, beginning, waits_after, first_acts, step_by, one_step, many_steps, Reports, run_answer, run_tally};
 ghost use Rattle.auction.specs.InOrder.{Ordered, Grown};
-ghost use Rattle.auction.specs.MadeOf.{MadeOf};
 ghost use Rattle.hall.specs.InBooks.{NotedOf, tally_in};
 ghost use Rattle.hall.specs.Ruled.{Ruled};
 ghost use Rattle.hall.specs.RunSteps.{state_of, Became};
@@ -151,7 +150,6 @@ impl Books {
         ensures noted { NotedOf (S.meaning source.now) self.new }
         ensures ruled { Ruled (run_answer depth budget) (run_tally depth budget) (S.meaning source.now) (Some self.old) (Some self.new) result }
         ensures reported { IfOk result (λ p. Reports budget (tally_in self.old) (tally_in self.new) p) }
-        ensures made { IfOk result (λ p. MadeOf (S.meaning source.now) (tally_in self.old) (tally_in self.new) p.steps) }
     {
         if !(1..=128).contains(&depth) {
             return Err(Refusal::DepthOutside);

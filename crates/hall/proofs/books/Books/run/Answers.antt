@@ -2,7 +2,7 @@ use Rattle.std.proofs.Common.{◌≡◌, ◌≤◌, true, ap, ◌∙◌, arith}
 use Rattle.std.proofs.lemmas.Grind.{common_steps}
 use Rattle.auction.specs.Rules.{between}
 use Rattle.auction.specs.Runs.{many_steps}
-use Rattle.hall.proofs.RunSteps.{start_ordered, run_ruled, run_reported, run_is_made}
+use Rattle.hall.proofs.RunSteps.{start_ordered, run_ruled, run_reported}
 use Rattle.hall.proofs.books.Books.run.Goals as goal
 
 pub make_steps-steps-requires-clause-ordered : goal.make_steps-steps-requires-clause-ordered
@@ -22,5 +22,4 @@ returns g c =
       noted = c.make_steps-steps.ensures.ready;
       ruled = run_ruled m sound c.args.depth c.args.budget old new q c.make_steps-steps.result d c.requires made c.make_steps-steps.ensures.ordered c.ending.result c.ending.ensures c.since.result c.since.ensures;
       reported = run_reported m sound c.args.depth c.args.budget old new q c.make_steps-steps.result d c.requires made c.make_steps-steps.ensures.ordered c.ending.result c.ending.ensures c.since.result c.since.ensures deep;
-      made = run_is_made m sound c.args.depth c.args.budget old new q c.make_steps-steps.result d c.requires made c.make_steps-steps.ensures.ordered c.ending.result c.ending.ensures c.since.result c.since.ensures;
     }
