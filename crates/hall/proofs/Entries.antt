@@ -15,6 +15,12 @@ all_dropped P xs zero h = h
 all_dropped P [] (suc k) h = tt
 all_dropped P (x ∷ xs) (suc k) h = all_dropped P xs k h.1
 
+-- What holds of all holds at each place.
+pub nth_of_all : {X : Type 0} (P : X → Type 0) (xs : List X) (k : ℕ) (d : X) → AllByRecursion P xs → k < length xs → P (get_or xs k d)
+nth_of_all P [] k d h l = absurd (omega arith)
+nth_of_all P (x ∷ xs) zero d h l = h.0
+nth_of_all P (x ∷ xs) (suc k) d h l = nth_of_all P xs k d h.1 (omega arith)
+
 pub weighed_cut : (n : ℕ) (ps : List ℕ) (b : Bid) (job worth : ℕ) → job < n → weighed_at (get_or ps job 0) b (job, worth) ≡ weighed (take n ps) b (job, worth)
 unfolding weighed
 weighed_cut n ps b job worth h = ap (λ p. weighed_at p b (job, worth)) (sym (get_or-take n ps job 0 h))

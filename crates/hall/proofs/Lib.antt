@@ -1,5 +1,6 @@
 pub mod Keeps
 pub mod Entries
+pub mod Seeing
 pub mod Tables
 pub mod Calling
 pub mod Looking

@@ -4,3 +4,4 @@ pub mod Ruled
 pub mod Steps
 pub mod RunSteps
 pub mod Replayed
+pub mod Seeing

@@ -2,4 +2,5 @@ pub mod Refusing
 pub mod PositionRows
 pub mod Reading
 pub mod Tables
+pub mod SheetEntries
 pub mod Worths

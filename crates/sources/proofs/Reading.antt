@@ -1,5 +1,5 @@
 -- What a reader of any source may rely on: its rows, entry by entry.
-use Rattle.std.proofs.Common.{◌≡◌, ℕ, zero, suc, ◌+◌, ◌<◌, ◌≤◌, List, [], ◌∷◌, length, get_or, drop, Some, None, Option, sym, refl, ◌∙◌, add-one, drop-cons, arith}
+use Rattle.std.proofs.Common.{◌≡◌, ℕ, zero, suc, ◌+◌, ◌<◌, ◌≤◌, List, [], ◌∷◌, length, get_or, drop, Some, None, Option, sym, refl, ap, ◌∙◌, add-one, drop-cons, arith}
 use Rattle.std.specs.Option.{MatchOption, option_map, unwrap_or}
 use Rattle.std.specs.List.{slice_get, AllByRecursion}
 use Rattle.sources.specs.Meaning.{Meaning, Sound, Rising, chosen, row_len, entry_at, row_of}
@@ -59,6 +59,15 @@ entry_none m i k h = sym (entry_is m i k) ∙ sym h
 -- the entry that was read at a place is the one that stands there in the row
 pub entry_read : (m : Meaning) (i k : ℕ) (e : ℕ × ℕ) → Some e ≡ entry_at m i k → get_or (row_of m i) k (0, 0) ≡ e
 entry_read m i k e h = nth_some (row_of m i) k e (0, 0) (entry_some m i k e h)
+
+read_or : (xs : List (ℕ × ℕ)) (k : ℕ) → unwrap_or (slice_get xs k) (0, 0) ≡ get_or xs k (0, 0)
+read_or [] k = refl
+read_or (x ∷ xs) zero = refl
+read_or (x ∷ xs) (suc k) = read_or xs k
+
+-- the entry at a place, or a pair of zeros where the row has none
+pub entry_or : (m : Meaning) (i k : ℕ) → unwrap_or (entry_at m i k) (0, 0) ≡ get_or (row_of m i) k (0, 0)
+entry_or m i k = ap (λ o. unwrap_or o (0, 0)) (entry_is m i k) ∙ read_or (row_of m i) k
 
 -- where none was read, the row ends
 pub entry_past : (m : Meaning) (i k : ℕ) → None ≡ entry_at m i k → length (row_of m i) ≤ k

@@ -35,4 +35,9 @@ impl<S: Source> Source for Floor<S> {
         let (job, worth) = self.below.entry(carrier, index)?;
         Some((job, if worth < self.floor { 0 } else { worth }))
     }
+
+    fn entry_there(&self, carrier: usize, index: usize) -> (usize, u64) {
+        let (job, worth) = self.below.entry_there(carrier, index);
+        (job, if worth < self.floor { 0 } else { worth })
+    }
 }

@@ -25,4 +25,8 @@ impl<S: Source> Source for &S {
     fn entry(&self, carrier: usize, index: usize) -> Option<(usize, u64)> {
         (**self).entry(carrier, index)
     }
+
+    fn entry_there(&self, carrier: usize, index: usize) -> (usize, u64) {
+        (**self).entry_there(carrier, index)
+    }
 }

@@ -1,6 +1,6 @@
 // What every source tells and promises.
-ghost use Rattle.std.specs.Prelude.{◌≡◌};
-ghost use Rattle.sources.specs.Meaning.{Meaning, Sound, row_len, entry_at};
+ghost use Rattle.std.specs.Prelude.{◌≡◌, ◌<◌, length, slice_index_or};
+ghost use Rattle.sources.specs.Meaning.{Meaning, Sound, row_len, row_of, entry_at};
 
 // A source of worth. Every question is told by its meaning, and no question alters it.
 // An entry of worth 0 counts as no entry.
@@ -30,4 +30,12 @@ pub trait Source {
     // The job and the worth at a place of the carrier's row; `None` where there is no such row or place.
     fn entry(&self, carrier: usize, index: usize) -> Option<(usize, u64)>
         ensures { result ≡ entry_at (meaning self.now) carrier index };
+
+    // The same at a place that the row has. A source that reads it at once, with no test, writes its own.
+    fn entry_there(&self, carrier: usize, index: usize) -> (usize, u64)
+        requires { index < length (row_of (meaning self.now) carrier) }
+        ensures { result ≡ slice_index_or (row_of (meaning self.now) carrier) index (0, 0) }
+    {
+        self.entry(carrier, index).unwrap_or((0, 0))
+    }
 }

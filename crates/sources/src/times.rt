@@ -46,4 +46,9 @@ impl<S: Source> Source for Times<S> {
         let (job, worth) = self.below.entry(carrier, index)?;
         Some((job, multiplied(self.factor, worth)))
     }
+
+    fn entry_there(&self, carrier: usize, index: usize) -> (usize, u64) {
+        let (job, worth) = self.below.entry_there(carrier, index);
+        (job, multiplied(self.factor, worth))
+    }
 }

@@ -14,10 +14,10 @@ ghost use Rattle.hall.specs.Ruled.{Ruled};
 ghost use Rattle.hall.specs.Steps.{counts_after, standing_after};
 
 use super::{Books, Lot};
-use crate::weighing::{best_worth, weighed};
+use crate::weighing::{Seen, best_worth, merged};
 use auction::standing::{Act, Award, Bid, Counts, Held, Standing, Verdict};
 use refusals::Refusal;
-use sources::asking::{entries_from, heading_of, row_length};
+use sources::asking::{heading_of, row_length};
 use sources::checks::{MOST_CARRIERS, MOST_JOBS, within_limits};
 use sources::form::Heading;
 use sources::source::Source;
@@ -42,18 +42,22 @@ fn look_on<S: Source>(
     lots: &[Lot; MOST_JOBS],
     lanes: usize,
     carrier: usize,
+    entries: usize,
     bid: Bid,
 ) -> Bid
     requires few_jobs { (S.meaning source.now).jobs ≤ 256 }
     requires low_prices { (j : ℕ) → slice_index (take (S.meaning source.now).jobs (prices_of lots.now)) j ≤ 2 ^ 37 }
-    requires short_row { length (row_of (S.meaning source.now) carrier) < 2 ^ 64 }
+    requires long { entries ≡ length (row_of (S.meaning source.now) carrier) }
+    requires inside { bid.looked ≤ entries }
     ensures { result ≡ looked_on lanes (take (S.meaning source.now).jobs (prices_of lots.now)) (row_of (S.meaning source.now) carrier) bid }
 {
-    let mut bid = bid;
-    for (job, worth) in entries_from(source, carrier, bid.looked).take(lanes) {
-        bid = weighed(bid, job, worth, lots[job].price);
+    let count = lanes.min(entries - bid.looked);
+    let mut seen = Seen::nothing();
+    for place in bid.looked..bid.looked + count {
+        let (job, worth) = source.entry_there(carrier, place);
+        seen = seen.and(job, worth, lots[job].price);
     }
-    bid
+    merged(bid, count, seen)
 }
 
 // What a carrier's standing and the call together lead to: the bid that the call begins, carries on or finds ready to be judged.
@@ -87,10 +91,11 @@ fn respond<S: Source>(
             Ok(bid)
         }
         (Standing::Bidding(bid), Act::Look) => {
-            if bid.looked >= row_length(source, carrier) {
+            let entries = row_length(source, carrier);
+            if bid.looked >= entries {
                 return Err(Refusal::RowLookedAt);
             }
-            let further = look_on(source, lots, lanes, carrier, bid);
+            let further = look_on(source, lots, lanes, carrier, entries, bid);
             *standing = Standing::Bidding(further);
             Ok(further)
         }

@@ -1,76 +1,81 @@
--- An entry that is there has a known job and a worth under the ceiling, and is the next of what is left to look at.
-use Rattle.std.proofs.Common.{◌≡◌, ℕ, ◌<◌, ◌≤◌, length, take, drop, fold, sym, ap, ◌∙◌, subst, arith, length-drop}
-use Rattle.std.specs.Iterator.Adapters.{take_source, take_count}
-use Rattle.std.specs.List.{AllByRecursion}
+-- An entry that is there has a known job and a worth under the ceiling.
+use Rattle.std.proofs.Common.{◌≡◌, ℕ, ◌+◌, ◌-◌, ◌^◌, ◌<◌, ◌≤◌, length, get_or, take, drop, sym, ap, ◌∙◌, subst, arith, rules, refl, fold}
 use Rattle.std.proofs.lemmas.List.{get_or-take}
 use Rattle.sources.specs.Meaning.{row_of}
-use Rattle.sources.specs.declared.asking.RowEntries.{RowEntries}
-use Rattle.sources.proofs.Reading.{row_known, row_within}
-use Rattle.auction.specs.Bids.{weighed, weighed_at}
-use Rattle.auction.proofs.Weighed.{weighed_looked}
+use Rattle.sources.proofs.Reading.{row_known, row_within, row_rising, rising_apart}
+use Rattle.auction.specs.Bids.{fresh, weighed, weighed_at}
 use Rattle.hall.specs.Kept.{unsold, prices_of}
-use Rattle.hall.proofs.Entries.{all_dropped, weighed_cut, left_in, take_turn, price_in}
+use Rattle.hall.specs.Seeing.{bid_in}
+use Rattle.hall.proofs.Entries.{weighed_cut, price_in, nth_of_all}
+use Rattle.hall.proofs.Seeing.{look_merged, seen_more}
 use Rattle.hall.proofs.books.calls.look_on.Goals as goal
 
-pub loop-job-init : goal.loop-job-init
-loop-job-init g c =
+pub offset_bounds-lots-job : goal.offset_bounds-lots-job
+offset_bounds-lots-job g c =
+    let m = g.S.Source.meaning c.args.source.now in
+    let e = c.entry_there-job.ensures in
+    let k : (get_or (row_of m c.args.carrier) c.loop-place.place (0, 0)).0 < m.jobs = nth_of_all (λ e. e.0 < m.jobs) (row_of m c.args.carrier) c.loop-place.place (0, 0) (row_known m (g.S.Source.sound c.args.source.now) c.args.carrier) (omega arith) in
+    let j = ap (λ x. x.0) e in
+    let n : c.entry_there-job.result.0 < 256 = omega (arith, k, j, c.requires.few_jobs) in
+    search rules
+
+pub bounds-lots-job : goal.bounds-lots-job
+bounds-lots-job g c =
+    let m = g.S.Source.meaning c.args.source.now in
+    let e = c.entry_there-job.ensures in
+    let k = nth_of_all (λ e. e.0 < m.jobs) (row_of m c.args.carrier) c.loop-place.place (0, 0) (row_known m (g.S.Source.sound c.args.source.now) c.args.carrier) (omega arith) in
+    let j = ap (λ x. x.0) e in
+    omega (arith, k, j, c.requires.few_jobs)
+
+pub and-seen-requires-clause-low_worth : goal.and-seen-requires-clause-low_worth
+and-seen-requires-clause-low_worth g c =
+    let m = g.S.Source.meaning c.args.source.now in
+    let sound = g.S.Source.sound c.args.source.now in
+    let k = nth_of_all (λ e. e.1 ≤ m.ceiling) (row_of m c.args.carrier) c.loop-place.place (0, 0) (row_within m sound c.args.carrier) (omega arith) in
+    omega (arith, k, ap (λ x. x.1) c.entry_there-job.ensures, sound.small)
+
+pub and-seen-requires-clause-low_price : goal.and-seen-requires-clause-low_price
+and-seen-requires-clause-low_price g c =
+    let m = g.S.Source.meaning c.args.source.now in
+    let sound = g.S.Source.sound c.args.source.now in
+    let k = nth_of_all (λ e. e.0 < m.jobs) (row_of m c.args.carrier) c.loop-place.place (0, 0) (row_known m sound c.args.carrier) (omega arith) in
+    let job = c.entry_there-job.result.0 in
+    let known : c.entry_there-job.result.0 < m.jobs = omega (arith, k, ap (λ x. x.0) c.entry_there-job.ensures) in
+    let price = price_in c.args.lots.now job unsold (omega (arith, known, c.requires.few_jobs)) in
+    omega (arith, price, get_or-take m.jobs (prices_of c.args.lots.now) job 0 known, c.requires.low_prices job)
+
+pub loop-place-preserved : goal.loop-place-preserved
+loop-place-preserved g c =
     let m = g.S.Source.meaning c.args.source.now in
     let sound = g.S.Source.sound c.args.source.now in
     let row = row_of m c.args.carrier in
-    let ps = take m.jobs (prices_of c.args.lots.now) in
-    let rest = λ (s : RowEntries _ g.S.Source). drop s.places.start (row_of (g.S.Source.meaning s.source.now) s.carrier) in
-    let it = c.into_iter-job-iterator.result in
-    let gives = c.into_iter-job-iterator.ensures.into_iter_gives in
-    let is : rest (take_source it) ≡ drop c.args.bid.looked row = ap (λ z. rest (take_source z)) gives ∙ ap rest c.take-job-items.ensures.source ∙ c.entries_from.ensures in
-    let count : take_count it ≡ c.args.lanes = ap take_count gives ∙ c.take-job-items.ensures.count in
-    record {
-      can_next = tt;
-      is_finite = tt;
-      folded = ap (λ n. fold (weighed ps) c.args.bid (take n (rest (take_source it)))) count ∙ ap (λ xs. fold (weighed ps) c.args.bid (take c.args.lanes xs)) is;
-      known = subst (AllByRecursion (λ e. e.0 < m.jobs)) (sym is) (all_dropped _ row c.args.bid.looked (row_known m sound c.args.carrier));
-      within = subst (AllByRecursion (λ e. e.1 ≤ m.ceiling)) (sym is) (all_dropped _ row c.args.bid.looked (row_within m sound c.args.carrier));
-      short = λ l. omega (arith, l, ap length is, length-drop c.args.bid.looked row, c.requires.short_row);
-    }
-
-pub weighed-bid-requires : goal.weighed-bid-requires
-weighed-bid-requires g c =
-    let m = g.S.Source.meaning c.args.source.now in
-    let sound = g.S.Source.sound c.args.source.now in
-    let rest = λ (s : RowEntries _ g.S.Source). drop s.places.start (row_of (g.S.Source.meaning s.source.now) s.carrier) in
-    let inv = c.loop-job.invariant in
-    let job = c.in-Some.job in
-    let turn = take_turn rest c.loop-job.job-iterator c.next.new.self c.next.result (job, c.in-Some.worth) c.in-Some.is c.next.ensures.steps in
-    let long = ap length turn.0 in
-    let known = subst (AllByRecursion (λ e. e.0 < m.jobs)) turn.0 inv.known in
-    let within = subst (AllByRecursion (λ e. e.1 ≤ m.ceiling)) turn.0 inv.within in
-    let price = price_in c.args.lots.now job unsold (omega (arith, known.0, c.requires.few_jobs)) in
-    record {
-      few_looked = omega (arith, long, inv.short (omega (arith, long)));
-      low_worth = omega (arith, within.0, sound.small);
-      low_price = omega (arith, price, get_or-take m.jobs (prices_of c.args.lots.now) job 0 known.0, c.requires.low_prices job);
-    }
-
-pub loop-job-preserved : goal.loop-job-preserved
-loop-job-preserved g c =
-    let m = g.S.Source.meaning c.args.source.now in
-    let rest = λ (s : RowEntries _ g.S.Source). drop s.places.start (row_of (g.S.Source.meaning s.source.now) s.carrier) in
-    let inv = c.loop-job.invariant in
-    let bid = c.loop-job.bid in
-    let job = c.in-Some.job in
-    let e : ℕ × ℕ = (job, c.in-Some.worth) in
     let lots = c.args.lots.now in
     let ps = take m.jobs (prices_of lots) in
-    let turn = take_turn rest c.loop-job.job-iterator c.next.new.self c.next.result e c.in-Some.is c.next.ensures.steps in
-    let long = ap length turn.0 in
-    let known = subst (AllByRecursion (λ e. e.0 < m.jobs)) turn.0 inv.known in
-    let within = subst (AllByRecursion (λ e. e.1 ≤ m.ceiling)) turn.0 inv.within in
-    let is : c.weighed-bid.result ≡ weighed ps bid e =
-    c.weighed-bid.ensures ∙ ap (λ p. weighed_at p bid e) (price_in lots job unsold (omega (arith, known.0, c.requires.few_jobs))) ∙ weighed_cut m.jobs (prices_of lots) bid job c.in-Some.worth known.0 in
+    let place = c.loop-place.place in
+    let from = c.args.bid.looked in
+    let s = c.loop-place.seen in
+    let e = c.entry_there-job.result in
+    let inside : c.loop-place.place < length (row_of m c.args.carrier) = omega arith in
+    let k = nth_of_all (λ e. e.0 < m.jobs) row place (0, 0) (row_known m sound c.args.carrier) inside in
+    let known : c.entry_there-job.result.0 < m.jobs = omega (arith, k, ap (λ x. x.0) c.entry_there-job.ensures) in
+    let before : ℕ = place - from in
+    let next : (c.loop-place.place - c.args.bid.looked) + 1 ≡ c.loop-place.place + 1 - c.args.bid.looked = omega arith in
+    let so_far = bid_in (place - from) s.net s.job s.worth s.runner_up in
+    let price = price_in lots e.0 unsold (omega (arith, known, c.requires.few_jobs)) in
+    let step = c.and-seen.ensures.seen (place - from) ∙ ap (λ p. weighed_at p so_far e) price ∙ weighed_cut m.jobs (prices_of lots) so_far e.0 e.1 known in
+    let more = step ∙ seen_more ps row from place (place - from) so_far e (omega arith) refl inside c.entry_there-job.ensures c.loop-place.invariant.folded in
     record {
-      can_next = tt;
-      is_finite = tt;
-      folded = ap (λ b. fold (weighed ps) b (left_in rest c.next.new.self)) is ∙ sym (ap (fold (weighed ps) bid) turn.1) ∙ inv.folded;
-      known = known.1;
-      within = within.1;
-      short = λ l. omega (arith, l, long, inv.short (omega (arith, long)), ap (λ b. b.looked) is, weighed_looked ps bid e);
+      folded = let r = c.and-seen.result in
+          subst (λ n. bid_in n r.net r.job r.worth r.runner_up ≡ fold (weighed ps) fresh (take n (drop from row))) next more;
+      rises = λ n l i.
+        let apart = rising_apart 0 row (row_rising m sound c.args.carrier) place n (omega arith) i in
+        c.and-seen.ensures.rises (get_or row n (0, 0)).0 (omega (arith, apart, ap (λ x. x.0) c.entry_there-job.ensures));
     }
+
+pub returns : goal.returns
+returns g c =
+    let m = g.S.Source.meaning c.args.source.now in
+    let s = c.loop-place.seen in
+    let count : c.loop-place.place - c.args.bid.looked ≡ c.min-count.result = omega arith in
+    let seen = subst (λ n. bid_in n s.net s.job s.worth s.runner_up ≡ fold (weighed (take m.jobs (prices_of c.args.lots.now))) fresh (take n (drop c.args.bid.looked (row_of m c.args.carrier)))) count c.loop-place.invariant.folded in
+    c.merged.ensures ∙ look_merged c.args.lanes c.min-count.result (take m.jobs (prices_of c.args.lots.now)) (row_of m c.args.carrier) c.args.bid _ (omega (arith, c.min-count.ensures, c.requires.long)) seen

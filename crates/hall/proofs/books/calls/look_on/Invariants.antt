@@ -1,24 +1,18 @@
-use Rattle.std.proofs.Common.{◌≡◌, ◌+◌, ◌^◌, ◌<◌, ◌≤◌, length, take, drop, fold}
-use Rattle.std.specs.Iterator.Adapters.{take_source}
-use Rattle.std.specs.List.{AllByRecursion}
+use Rattle.std.proofs.Common.{◌≡◌, ℕ, ◌-◌, ◌<◌, ◌≤◌, ◌⊎◌, length, get_or, take, drop, fold}
 use Rattle.sources.specs.Meaning.{row_of}
-use Rattle.sources.specs.declared.asking.RowEntries.{RowEntries}
-use Rattle.auction.specs.Bids.{weighed, looked_on}
+use Rattle.auction.specs.Bids.{fresh, weighed}
 use Rattle.hall.specs.Kept.{prices_of}
-use Rattle.hall.proofs.Entries.{left_in}
+use Rattle.hall.specs.Seeing.{bid_in}
 use Rattle.hall.proofs.books.calls.look_on.Given as goal
 
--- What is left to look at makes of the bid so far what all of it makes of the bid that came in.
-abbrev pub invariant-loop-job : goal.invariant-loop-job
-invariant-loop-job g l =
+-- What was seen is what the entries up to here come to among themselves, and its job is below those that follow.
+abbrev pub invariant-loop-place : goal.invariant-loop-place
+invariant-loop-place g l =
     let m = g.S.Source.meaning l.source in
     let ps = take m.jobs (prices_of l.lots) in
-    let rest = λ (s : RowEntries _ g.S.Source). drop s.places.start (row_of (g.S.Source.meaning s.source.now) s.carrier) in
+    let row = row_of m l.carrier in
+    let s = l.seen in
     record {
-      can_next : (goal.iterator-loop-job g).can_next l.job-iterator;
-      is_finite : (goal.iterator-loop-job g).is_finite l.job-iterator;
-      folded : fold (weighed ps) l.bid (left_in rest l.job-iterator) ≡ looked_on l.lanes ps (row_of m l.carrier) l.initial.bid;
-      known : AllByRecursion (λ e. e.0 < m.jobs) (rest (take_source l.job-iterator));
-      within : AllByRecursion (λ e. e.1 ≤ m.ceiling) (rest (take_source l.job-iterator));
-      short : 0 < length (rest (take_source l.job-iterator)) → l.bid.looked + length (rest (take_source l.job-iterator)) < 2 ^ 64;
+      folded : bid_in (l.place - l.bid.looked) s.net s.job s.worth s.runner_up ≡ fold (weighed ps) fresh (take (l.place - l.bid.looked) (drop l.bid.looked row));
+      rises : (k : ℕ) → l.place ≤ k → k < length row → (s.worth ≡ 0) ⊎ (s.job < (get_or row k (0, 0)).0);
     }
