@@ -1,6 +1,6 @@
 // What filling a sheet checks.
-ghost use Rattle.std.specs.Prelude.{◌≡◌, ◌<◌, ◌≤◌, length};
-ghost use Rattle.sources.specs.Sheets.{within_limits, starts_good, in_order, entry_refusal, fill_verdict};
+ghost use Rattle.std.specs.Prelude.{◌≡◌, ◌-◌, ◌<◌, ◌≤◌, length, nat_lt};
+ghost use Rattle.sources.specs.Sheets.{within_limits, starts_good, in_order, entry_refusal, fill_verdict, job_at};
 
 use crate::form::{Entry, Heading};
 use refusals::Refusal;
@@ -34,12 +34,21 @@ fn starts_good(heading: Heading, starts: &[usize], count: usize) -> bool
     starts.is_sorted() && starts[heading.carriers] <= count
 }
 
+// Whether the job of the entry at k is above that of the entry before it; nothing stands before the first.
+fn rises(entries: &[Entry], k: usize) -> bool
+    requires { k < length entries.now }
+    ensures { result ≡ nat_lt (job_at entries.now (k - 1)) (job_at entries.now k) }
+{
+    k > 0 && entries[k - 1].job < entries[k].job
+}
+
 // Whether the entry at k begins its row, or its job is above that of the entry before it.
 fn in_order(starts: &[usize], entries: &[Entry], k: usize) -> bool
     requires { k < length entries.now }
     ensures { result ≡ in_order starts.now entries.now k }
 {
-    starts.contains(&k) || k > 0 && entries[k - 1].job < entries[k].job
+    // The starts are searched last, for the entries that do not rise: one for each row of a good table.
+    rises(entries, k) || starts.contains(&k)
 }
 
 // What the first bad entry is refused for. An Option, and no Result: the invariant of `Sheet` names this answer.

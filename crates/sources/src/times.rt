@@ -7,6 +7,8 @@ use crate::source::Source;
 
 const HIGHEST_WORTH: u64 = 1 << 60;
 
+const SMALL_WORTH: u64 = 1 << 28;
+
 // A struct of its own beside `Floor`: each layer is a plain value that holds the source below it, a form that the project
 // keeps (docs/DECISIONS.md).
 #[derive(Drop)]
@@ -18,7 +20,12 @@ pub struct Times<S> {
 fn multiplied(factor: u32, worth: u64) -> u64
     ensures { result ≡ scaled factor worth }
 {
-    u64::from(factor).saturating_mul(worth).min(HIGHEST_WORTH)
+    // No product of so small a worth reaches 2^60: most worths are scaled by one multiplication.
+    if worth < SMALL_WORTH {
+        u64::from(factor) * worth
+    } else {
+        u64::from(factor).saturating_mul(worth).min(HIGHEST_WORTH)
+    }
 }
 
 impl<S: Source> Source for Times<S> {

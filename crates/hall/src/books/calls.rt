@@ -174,6 +174,7 @@ impl Books {
     }
 
     // Calls on a carrier, whose standing is lent to be changed. A bid that settles is still open after.
+    #[inline(always)]
     #[tactic(auto, unfolding(auction::specs::Rules::bid_at))]
     fn call_on<S: Source>(&mut self, source: &S, carrier: usize, act: Act) -> Result<Bid, Refusal>
         requires { NotedOf (S.meaning source.now) self.old }
