@@ -52,7 +52,7 @@ module _ (price n job worth : ℕ) (net_s : ℤ) (job_s worth_s : ℕ) (r : ℤ)
   same_best x y j w e = ap (λ z. best_of z j w) e
 
   beats_is : job_s < job → beats new old ≡ lt_z net_s (pos worth -ℤ pos price)
-  beats_is l = 
+  beats_is l =
       let f = le-ltb job job_s (omega arith) in
       ap (λ t. lt_z net_s (pos worth -ℤ pos price) || (le_z net_s (pos worth -ℤ pos price) && t)) f ∙ no_more (lt_z net_s (pos worth -ℤ pos price)) (le_z net_s (pos worth -ℤ pos price))
 

@@ -58,8 +58,8 @@ fn list_source<S: Source>(source: &S, out: &mut [u8]) -> Result<usize, Refusal>
         standings,
         counts,
     };
-    let len = ended.put_listing(&mut []);
-    if out.len() < len {
+    // No listing is longer than the most text: only for a shorter buffer is it asked first how long it is.
+    if out.len() < MOST_TEXT && out.len() < ended.put_listing(&mut []) {
         return Err(Refusal::TooShort);
     }
     Ok(ended.put_listing(out))

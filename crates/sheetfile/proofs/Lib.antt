@@ -10,3 +10,4 @@ pub mod Loading
 pub mod Writing
 pub mod Again
 pub mod Filling
+pub mod Known

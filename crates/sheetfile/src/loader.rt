@@ -1,5 +1,5 @@
 // A loader that passes through three states, each a type of its own: bare, headed, closed. The tables are lent to each call.
-ghost use Rattle.std.specs.Prelude.{◌≡◌, length, slice_set};
+ghost use Rattle.std.specs.Prelude.{◌≡◌, true, is_ok, length, slice_set, Ok};
 ghost use Rattle.sheetfile.specs.Readers.{value_of};
 ghost use Rattle.sheetfile.specs.Reading.{heading_in};
 ghost use Rattle.sheetfile.specs.States.{after_row, closed_by, closing, entries_after_row, headed_by, next_row, starts_after_row};
@@ -106,6 +106,27 @@ impl<'a> Headed<'a> {
         let count = self.next_row(starts.len(), entries.len())?;
         let end = self.used + count;
         self.reader.row(self.heading, &mut entries[self.used..end])?;
+        starts[self.rows + 1] = end;
+        self.rows += 1;
+        self.used = end;
+        Ok(())
+    }
+
+    // The same of a row that is known to be accepted: its bytes are read once.
+    pub(crate) fn read_known_row(
+        &mut self,
+        starts: &mut [usize],
+        entries: &mut [Entry],
+    ) -> Result<(), Fault>
+        requires { is_ok (next_row self.old (length starts.old) (length entries.old)) ≡ true }
+        ensures answer { result ≡ Ok tt }
+        ensures loader { self.new ≡ updated (next_row self.old (length starts.old) (length entries.old)) self.old (after_row self.old) }
+        ensures starts { starts.new ≡ updated (next_row self.old (length starts.old) (length entries.old)) starts.old (starts_after_row self.old starts.old) }
+        ensures entries { entries.new ≡ updated (next_row self.old (length starts.old) (length entries.old)) entries.old (entries_after_row self.old entries.old) }
+    {
+        let end = self.used + self.reader.announced()?;
+        self.reader
+            .row(self.heading, &mut entries[self.used..end])?;
         starts[self.rows + 1] = end;
         self.rows += 1;
         self.used = end;

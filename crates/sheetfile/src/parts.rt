@@ -2,7 +2,7 @@
 ghost use Rattle.std.specs.Prelude.{◌≡◌};
 ghost use Rattle.numbers.specs.Reading.{read_at};
 ghost use Rattle.sheetfile.specs.Reading.{bounded_by, closed_at, entry_from, heading_at, number_from, row_from, row_in};
-ghost use Rattle.sheetfile.specs.Readers.{Reads};
+ghost use Rattle.sheetfile.specs.Readers.{Reads, value_of};
 ghost use Rattle.sheetfile.specs.Tables.{HoldsRow, row_count};
 
 use numbers::read_number;
@@ -99,6 +99,15 @@ impl<'a> Reader<'a> {
         }
         *self = ahead;
         Ok(count)
+    }
+
+    // How many entries the row that begins here announces.
+    pub(crate) fn announced(&self) -> Result<usize, Fault>
+        ensures { result ≡ value_of (read_at self.now.bytes.now self.now.at) }
+    {
+        let mut ahead = *self;
+        let count = ahead.number()?;
+        Ok(count as usize)
     }
 
     // The same, after so many entries and for a table of so many in all; no table is written.

@@ -57,7 +57,7 @@ pub(crate) fn load_surveyed(
 {
     let mut loader = Bare::new(bytes).read_heading(starts)?;
     for _i in 0..surveyed.carriers {
-        loader.read_row(starts, entries)?;
+        loader.read_known_row(starts, entries)?;
     }
     Ok(loader.close()?.heading())
 }

@@ -63,6 +63,7 @@ fn look_on<S: Source>(
 // What a carrier's standing and the call together lead to: the bid that the call begins, carries on or finds ready to be judged.
 // One standing is lent to be changed, and the match is on it and the act together: forms that the project keeps
 // (docs/DECISIONS.md).
+#[inline(always)]
 fn respond<S: Source>(
     source: &S,
     lots: &[Lot; MOST_JOBS],

@@ -1,4 +1,4 @@
-use Rattle.std.proofs.Common.{◌≡◌, ◌<◌, length, Ok, sym, ap, ◌∙◌, arith}
+use Rattle.std.proofs.Common.{◌≡◌, ◌<◌, length, is_ok, Ok, sym, ap, ◌∙◌, arith}
 use Rattle.std.proofs.lemmas.List.{length-set}
 use Rattle.sources.specs.Meaning.{Meaning}
 use Rattle.sources.specs.Tables.{ends_of, entries_of, starts_of}
@@ -7,7 +7,6 @@ use Rattle.sheetfile.specs.Tables.{heading_answer}
 use Rattle.sheetfile.specs.Layout.{meaning_of}
 use Rattle.sheetfile.specs.Reading.{heading_in, loaded}
 use Rattle.sheetfile.specs.States.{closing}
-use Rattle.sheetfile.specs.Steps.{without_value}
 use Rattle.numbers.specs.Writing.{over}
 use Rattle.sheetfile.proofs.Filling.{loads_exactly}
 use Rattle.sheetfile.proofs.Loading.{accepted, closes_now, entries_done, underway_first, underway_next, heading_there, start_put, starts_done}
@@ -26,16 +25,18 @@ loop-i-init c =
     underway_first c.args.bytes.now c.args.starts.now c.args.entries.now c.args.surveyed c.new.result c.new.ensures c.requires c.read_heading.new.starts
     c.in_ok-loader.ensures.starts c.in_ok-loader.loader c.in_ok-loader.ensures.answer
 
-pub returns-in_err-read_row : goal.returns-in_err-read_row
-returns-in_err-read_row c =
+pub read_known_row-requires : goal.read_known_row-requires
+read_known_row-requires c =
     let l = c.loop-i in
-    let v = accepted c.args.bytes.now c.read_heading.new.starts c.args.entries.now c.args.surveyed.carriers l._i l.loader l.starts l.entries l.invariant l.auto.starts l.auto.entries c.loop-i-test.true in
-    err_not_ok c.in_err-read_row.field-0.0 tt (c.in_err-read_row.ensures.answer ∙ ap without_value v)
+    ap is_ok (accepted c.args.bytes.now c.read_heading.new.starts c.args.entries.now c.args.surveyed.carriers l._i l.loader l.starts l.entries l.invariant l.auto.starts l.auto.entries c.loop-i-test.true)
+
+pub returns-in_err-read_known_row : goal.returns-in_err-read_known_row
+returns-in_err-read_known_row c = err_not_ok c.in_err-read_known_row.field-0.0 tt c.in_err-read_known_row.ensures.answer
 
 pub loop-i-preserved : goal.loop-i-preserved
 loop-i-preserved c =
     let l = c.loop-i in
-    let r = c.read_row in
+    let r = c.read_known_row in
     underway_next c.args.bytes.now c.read_heading.new.starts c.args.entries.now c.args.surveyed.carriers l._i l.loader l.starts l.entries l.invariant l.auto.starts l.auto.entries c.loop-i-test.true
     r.new.self r.new.starts r.new.entries r.ensures.loader r.ensures.starts r.ensures.entries
 

@@ -68,8 +68,8 @@ loop-place-preserved g c =
       folded = let r = c.and-seen.result in
           subst (λ n. bid_in n r.net r.job r.worth r.runner_up ≡ fold (weighed ps) fresh (take n (drop from row))) next more;
       rises = λ n l i.
-        let apart = rising_apart 0 row (row_rising m sound c.args.carrier) place n (omega arith) i in
-        c.and-seen.ensures.rises (get_or row n (0, 0)).0 (omega (arith, apart, ap (λ x. x.0) c.entry_there-job.ensures));
+          let apart = rising_apart 0 row (row_rising m sound c.args.carrier) place n (omega arith) i in
+          c.and-seen.ensures.rises (get_or row n (0, 0)).0 (omega (arith, apart, ap (λ x. x.0) c.entry_there-job.ensures));
     }
 
 pub returns : goal.returns

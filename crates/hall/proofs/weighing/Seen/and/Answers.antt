@@ -41,14 +41,14 @@ returns-clause-rises c next l =
 pub invariant_of-result : goal.invariant_of-result
 invariant_of-result c = record {
   none = λ z.
-    let s = c.args.self in
-    let net = c.net_at-net.result in
-    let f1 : SFits w64 c.args.self.net = search rules in
-    let f2 : SFits w64 c.args.self.runner_up = search rules in
-    let f3 : SFits w64 c.net_at-net.result = search rules in
-    let m : to_z w64 (of_z w64 c.max.result) ≡ int_max c.args.self.net c.net_at-net.result = omega (arith, ints, clamps, c.max.ensures.value) in
-    let low : least ≤ℤ c.args.self.net = omega (arith, ints) in
-    let low_r : least ≤ℤ c.args.self.runner_up = omega (arith, ints) in
-    let w : c.either-2.result ≡ cond (lt_z c.args.self.net c.net_at-net.result) c.args.worth c.args.self.worth = simp to_z-of_z at c.either-2.ensures in
-    m ∙ still_none c.args.price 0 c.args.job c.args.worth s.net s.job s.worth s.runner_up net c.requires.low_worth c.requires.low_price low low_r s.none c.requires.rises c.net_at-net.ensures (lt_z s.net net) refl (sym w ∙ z);
+      let s = c.args.self in
+      let net = c.net_at-net.result in
+      let f1 : SFits w64 c.args.self.net = search rules in
+      let f2 : SFits w64 c.args.self.runner_up = search rules in
+      let f3 : SFits w64 c.net_at-net.result = search rules in
+      let m : to_z w64 (of_z w64 c.max.result) ≡ int_max c.args.self.net c.net_at-net.result = omega (arith, ints, clamps, c.max.ensures.value) in
+      let low : least ≤ℤ c.args.self.net = omega (arith, ints) in
+      let low_r : least ≤ℤ c.args.self.runner_up = omega (arith, ints) in
+      let w : c.either-2.result ≡ cond (lt_z c.args.self.net c.net_at-net.result) c.args.worth c.args.self.worth = simp to_z-of_z at c.either-2.ensures in
+      m ∙ still_none c.args.price 0 c.args.job c.args.worth s.net s.job s.worth s.runner_up net c.requires.low_worth c.requires.low_price low low_r s.none c.requires.rises c.net_at-net.ensures (lt_z s.net net) refl (sym w ∙ z);
 }
