@@ -13,7 +13,7 @@ use crate::putting::put_number;
 use auction::standing::Standing;
 use outputs::Output;
 use refusals::Refusal;
-use sheetfile::whole::{MOST_ENTRIES, MOST_STARTS, load_within, sheet_over};
+use sheetfile::whole::{MOST_ENTRIES, MOST_STARTS, load_short, load_within, sheet_over};
 use sources::checks::MOST_CARRIERS;
 use sources::form::Entry;
 use sources::source::Source;
@@ -25,6 +25,9 @@ mod putting;
 // The most bytes that are printed: 64 for each of 128 carriers, and 128.
 pub const MOST_TEXT: usize = 8320;
 
+// The entries of a small table.
+const FEW_ENTRIES: usize = 512;
+
 // Pairs the carriers and jobs of a sheet file, and writes the listing. It gives the listing's length.
 // Refused: what the load refuses; 4 if the ceiling, times (carriers + 1), is above 2^36; and last of all 12 if the listing does not fit.
 // Bytes behind the listing are not touched, and none where it is refused.
@@ -34,7 +37,37 @@ pub fn list_pairs(sheet: &[u8], out: &mut [u8]) -> Result<usize, Refusal>
     ensures paired { FilePairsWell sheet.now }
     ensures short { AtMost 8320 (listed sheet.now) }
 {
-    // Tables of a fixed size, here and below: no heap is used, since C calls it.
+    // Tables of a fixed size, here and below: no heap is used, since C calls it. A short file gets a small one, since it takes
+    // longer to fill a table with zeros than to pair a small sheet.
+    if sheet.len() <= 2 * FEW_ENTRIES {
+        list_short(sheet, out)
+    } else {
+        list_long(sheet, out)
+    }
+}
+
+// The same of a short file.
+fn list_short(sheet: &[u8], out: &mut [u8]) -> Result<usize, Refusal>
+    requires { length sheet.now ≤ 1024 }
+    ensures answer { result ≡ sized (listed_within sheet.now (length out.old)) }
+    ensures after { out.new ≡ put_into out.old (listed_within sheet.now (length out.old)) }
+    ensures paired { FilePairsWell sheet.now }
+    ensures short { AtMost 8320 (listed sheet.now) }
+{
+    let mut starts = [0usize; MOST_STARTS];
+    let mut entries = [Entry { job: 0, worth: 0 }; FEW_ENTRIES];
+    let heading = load_short(sheet, &mut starts, &mut entries).map_err(|fault| fault.refusal)?;
+    let source = sheet_over(heading, &starts, &entries).map_err(|fault| fault.refusal)?;
+    list_source(&source, out)
+}
+
+// The same of any file.
+fn list_long(sheet: &[u8], out: &mut [u8]) -> Result<usize, Refusal>
+    ensures answer { result ≡ sized (listed_within sheet.now (length out.old)) }
+    ensures after { out.new ≡ put_into out.old (listed_within sheet.now (length out.old)) }
+    ensures paired { FilePairsWell sheet.now }
+    ensures short { AtMost 8320 (listed sheet.now) }
+{
     let mut starts = [0usize; MOST_STARTS];
     let mut entries = [Entry { job: 0, worth: 0 }; MOST_ENTRIES];
     let heading = load_within(sheet, &mut starts, &mut entries).map_err(|fault| fault.refusal)?;

@@ -11,3 +11,4 @@ pub mod Writing
 pub mod Again
 pub mod Filling
 pub mod Known
+pub mod Small

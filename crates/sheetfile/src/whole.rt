@@ -1,5 +1,5 @@
 // Whole files.
-ghost use Rattle.std.specs.Prelude.{◌≡◌, length, IfOk, Ok};
+ghost use Rattle.std.specs.Prelude.{◌≡◌, ◌*◌, ◌≤◌, length, IfOk, Ok};
 ghost use Rattle.numbers.specs.Writing.{over};
 ghost use Rattle.sheetfile.specs.Laws.{LoadsExactly};
 ghost use Rattle.sheetfile.specs.Layout.{SheetFile};
@@ -108,5 +108,20 @@ pub fn load_within(
     if bytes.len() > MOST_BYTES {
         return Err(Fault::bare(Refusal::TooShort));
     }
+    load(bytes, starts, entries)
+}
+
+// The same of a file with at most two bytes for each place of a table that may be smaller: each entry takes two bytes at
+// least, so no more room is needed.
+pub fn load_short(
+    bytes: &[u8],
+    starts: &mut [usize; MOST_STARTS],
+    entries: &mut [Entry],
+) -> Result<Heading, Fault>
+    requires enough { length bytes.now ≤ 2 * length entries.old }
+    requires short { length bytes.now ≤ 8192 }
+    ensures answer { result ≡ heading_answer (loaded_within bytes.now) }
+    ensures filling { and_then result (λ h. sheet_in h starts.new entries.new) ≡ loaded_within bytes.now }
+{
     load(bytes, starts, entries)
 }
