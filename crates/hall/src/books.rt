@@ -5,7 +5,7 @@ use auction::standing::{Counts, Standing};
 use sources::checks::{MOST_CARRIERS, MOST_JOBS};
 use sources::form::Heading;
 
-mod calls;
+pub(crate) mod calls;
 mod questions;
 mod queues;
 mod runs;

@@ -11,9 +11,11 @@ ghost use Rattle.auction.specs.Reached.{Reached, Lawful};
 ghost use Rattle.auction.specs.Calls.{price_answer, holder_answer, standing_answer, worth_answer, counts_answer, answer_to, tally_by};
 
 use crate::books::Books;
+use crate::books::calls::check_start;
 use auction::call::{Answer, Call};
 use auction::standing::{Counts, Report, Standing, Verdict};
 use refusals::Refusal;
+use sources::asking::heading_of;
 use sources::source::Source;
 
 // A hall owns its source, any source, and its books; it has none before the first start. Every call acts on that hall: it answers as the rule
@@ -46,7 +48,8 @@ impl<S: Source> Hall<S> {
         ensures ruled { Ruled (λ m _. start_answer step lanes m) (start_tally step lanes) (S.meaning self.old.source) self.old.books self.new.books result }
         ensures kept { self.new.source ≡ self.old.source }
     {
-        self.books = Some(Books::start(&self.source, step, lanes)?);
+        check_start(&self.source, step, lanes)?;
+        self.books = Some(Books::fresh(heading_of(&self.source), step, lanes));
         Ok(())
     }
 

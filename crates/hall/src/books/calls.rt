@@ -22,7 +22,7 @@ use sources::checks::{MOST_CARRIERS, MOST_JOBS, within_limits};
 use sources::form::Heading;
 use sources::source::Source;
 
-fn check_start<S: Source>(source: &S, step: u64, lanes: usize) -> Result<(), Refusal>
+pub(crate) fn check_start<S: Source>(source: &S, step: u64, lanes: usize) -> Result<(), Refusal>
     ensures { result ≡ start_answer step lanes (S.meaning source.now) }
 {
     if !within_limits(heading_of(source)) {
@@ -165,15 +165,6 @@ impl Books {
         }
     }
 
-    // The books of a start, which is refused as the hall's is.
-    pub(crate) fn start<S: Source>(source: &S, step: u64, lanes: usize) -> Result<Self, Refusal>
-        ensures started { IfOk result (λ b. NotedOf (S.meaning source.now) b × (Some (tally_in b) ≡ start_tally step lanes (S.meaning source.now) None)) }
-        ensures answered { result_map_both (λ b. tt) (λ e. e) result ≡ start_answer step lanes (S.meaning source.now) }
-    {
-        check_start(source, step, lanes)?;
-        Ok(Books::fresh(heading_of(source), step, lanes))
-    }
-
     // Calls on a carrier, whose standing is lent to be changed. A bid that settles is still open after.
     #[inline(always)]
     #[tactic(auto, unfolding(auction::specs::Rules::bid_at))]
@@ -249,6 +240,7 @@ impl Books {
         }
     }
 
+    #[inline(always)]
     pub(crate) fn settle<S: Source>(
         &mut self,
         source: &S,
