@@ -8,6 +8,30 @@ use auction::call::{Answer, Call};
 use refusals::Refusal;
 use sources::source::Source;
 
+impl<S: Source> Hall<S> {
+    // Performs the calls in their order on a hall that was never started, and writes each answer. Answers too few for the calls are refused, and then nothing is written or performed.
+    pub fn perform_all(
+        &mut self,
+        calls: &[Call],
+        answers: &mut [Result<Answer, Refusal>],
+    ) -> Result<(), Refusal>
+        requires { tally_of self.old.books ≡ None }
+        ensures kept { self.new.source ≡ self.old.source }
+        ensures fits { result ≡ (if nat_le (length calls.now) (length answers.old) then Ok tt else Err Refusal.TooShort) }
+        ensures replayed { is_ok result ≡ true → Replayed (S.meaning self.old.source) calls.now answers.old answers.new self.new.books }
+        ensures refused { is_ok result ≡ false → (answers.new ≡ answers.old) × (self.new ≡ self.old) }
+    {
+        if calls.len() > answers.len() {
+            return Err(Refusal::TooShort);
+        }
+        // By index: after a zip with `iter_mut` a proof knows how many answers there are, and not what was written.
+        for (i, call) in calls.iter().enumerate() {
+            answers[i] = self.perform(*call);
+        }
+        Ok(())
+    }
+}
+
 // Performs the calls in their order on a new hall, and writes each answer. Answers too few for the calls are refused, and then nothing is written or performed.
 pub fn replay<S: Source>(
     source: S,
@@ -20,12 +44,6 @@ pub fn replay<S: Source>(
     ensures refused { is_ok result.1 ≡ false → (answers.new ≡ answers.old) × (tally_of result.0.books ≡ None) }
 {
     let mut hall = Hall::new(source);
-    if calls.len() > answers.len() {
-        return (hall, Err(Refusal::TooShort));
-    }
-    // By index: after a zip with `iter_mut` a proof knows how many answers there are, and not what was written.
-    for (i, call) in calls.iter().enumerate() {
-        answers[i] = hall.perform(*call);
-    }
-    (hall, Ok(()))
+    let performed = hall.perform_all(calls, answers);
+    (hall, performed)
 }

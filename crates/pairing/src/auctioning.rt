@@ -4,7 +4,7 @@ ghost use Rattle.pairing.specs.Pairs.{Ends, PairsWell, auctioned};
 
 use auction::call::{Answer, Call};
 use auction::standing::{Counts, Standing};
-use hall::replay::replay;
+use hall::hall::Hall;
 use refusals::Refusal;
 use sources::source::Source;
 use sources::times::Times;
@@ -32,7 +32,8 @@ pub(crate) fn hold_auction<S: Source>(
         },
     ];
     let mut answers = [Ok(Answer::Accepted); 2];
-    let (hall, _) = replay(times, &calls, &mut answers);
+    let mut hall = Hall::new(times);
+    let _ = hall.perform_all(&calls, &mut answers);
     answers[0]?;
     for (carrier, standing) in standings.iter_mut().enumerate() {
         if let Ok(told) = hall.standing(carrier) {

@@ -1,23 +1,22 @@
-use Rattle.std.proofs.Common.{◌<◌, length, refl, ◌∙◌, subst, arith}
+use Rattle.std.proofs.Common.{◌<◌, ◌∙◌, length, refl, arith}
 use Rattle.auction.specs.Calls.{tally_from}
-use Rattle.hall.specs.Replayed.{Replayed}
 use Rattle.hall.proofs.Replaying.{tally_performed, answer_performed, beyond_more, replay_done}
-use Rattle.hall.proofs.replay.replay.Goals as goal
+use Rattle.hall.proofs.hall.Hall.perform_all.Goals as goal
 
 pub loop-i-init : goal.loop-i-init
 unfolding tally_from
 loop-i-init g c = (
   refl,
-  c.new-hall.ensures.tallied,
+  c.requires,
   refl,
   refl,
 )
 
 pub loop-i-preserved : goal.loop-i-preserved
 loop-i-preserved g c =
-    let s = c.new-hall.result.source in
-    let s' = c.loop-i.hall.source in
-    let b = c.loop-i.hall.books in
+    let s = c.args.self.now.source in
+    let s' = c.loop-i.self.source in
+    let b = c.loop-i.self.books in
     let i = c.loop-i.i in
     let inv = c.loop-i.invariant in
     let l : i < length c.loop-i.answers = omega arith in (
@@ -30,7 +29,6 @@ loop-i-preserved g c =
 pub returns-clause-replayed : goal.returns-clause-replayed
 returns-clause-replayed g c =
     let inv = c.loop-i.invariant in
-    let s = c.new-hall.result.source in
-    λ _. subst (λ z. Replayed (g.S.Source.meaning z) c.args.calls.now c.args.answers.now c.loop-i.answers c.loop-i.hall.books) c.new-hall.ensures.kept
-    (replay_done (g.S.Source.meaning s) (g.S.Source.sound s) c.args.calls.now c.loop-i.i c.args.answers.now c.loop-i.answers c.loop-i.hall.books
-    c.loop-i-test.false c.loop-i.auto.i-end inv.1 inv.2 inv.3)
+    let s = c.args.self.now.source in
+    λ _. replay_done (g.S.Source.meaning s) (g.S.Source.sound s) c.args.calls.now c.loop-i.i c.args.answers.now c.loop-i.answers c.loop-i.self.books
+    c.loop-i-test.false c.loop-i.auto.i-end inv.1 inv.2 inv.3
