@@ -10,7 +10,7 @@ use Rattle.auction.specs.declared.standing.Bid.{Bid}
 use Rattle.auction.specs.Bids.{natural, beats, fresh, ranked, weighed, weighed_at, looked_on}
 use Rattle.std.proofs.lemmas.List.{take_min, get_or-drop}
 use Rattle.std.proofs.lemmas.List.Sums.{fold_more}
-use Rattle.auction.proofs.Nets.{natural-up, sides, better, no_better, still_no_better}
+use Rattle.auction.proofs.Nets.{natural-up, beats-true, beats-false, sides, better, no_better, still_no_better}
 use Rattle.hall.specs.Seeing.{least, best_in, bid_in, merged, merged_best, merged_two}
 
 -- ---- one more entry
@@ -219,3 +219,31 @@ seen_more ps row from place k s e l m inside is before =
     ap (λ z. weighed ps z e) before
     ∙ ap (weighed ps (fold (weighed ps) fresh (take k (drop from row)))) (is ∙ ap (λ j. get_or row j (0, 0)) (sym at) ∙ sym (get_or-drop from row k (0, 0)))
     ∙ sym (fold_more (weighed ps) fresh (drop from row) k (0, 0) (omega (arith, length-drop from row)))
+
+-- The better of two bests, number by number.
+module _ (b : Bid) (n : ℕ) (net : ℤ) (job worth : ℕ) (r : ℤ) (old : Best) (has : b.best ≡ Some old) (some : eqb worth 0 ≡ false) where
+  abbrev seen_best : Best
+  seen_best = record { net = net; job = job; worth = worth }
+
+  abbrev both_best : Bool → Bid
+  both_best t = cond t (bid (b.looked + n) (Some seen_best) (max (max b.runner_up (natural r)) (natural old.net))) (bid (b.looked + n) (Some old) (max (max b.runner_up (natural r)) (natural net)))
+
+  merged_is : merged b (bid_in n net job worth r) ≡ both_best (beats seen_best old)
+  merged_is =
+      ap (λ t. merged_best b (bid n (cond t None (Some seen_best)) (natural r)) (cond t None (Some seen_best))) some
+      ∙ ap (λ o. merged_two b (bid n (Some seen_best) (natural r)) o seen_best) has
+
+  pub best_of_both : (t : Bool) (z : ℤ) (j w m : ℕ) → t ≡ beats seen_best old → z ≡ int_max old.net net → j ≡ cond t job old.job → w ≡ cond t worth old.worth →
+      m ≡ max (max b.runner_up (natural r)) (natural (int_min old.net net)) → bid (b.looked + n) (Some (record { net = z; job = j; worth = w })) m ≡ merged b (bid_in n net job worth r)
+  best_of_both true z j w m e ez ej ew em =
+      let l = beats-true seen_best old (sym e) in
+      let a : z ≡ net = omega (arith, ints, clamps, ez, l) in
+      let k : int_min old.net net ≡ old.net = omega (arith, ints, clamps, l) in
+      let q : m ≡ max (max b.runner_up (natural r)) (natural old.net) = em ∙ ap (λ x. max (max b.runner_up (natural r)) (natural x)) k in
+      (λ i. bid (b.looked + n) (Some (record { net = a i; job = ej i; worth = ew i })) (q i)) ∙ sym (merged_is ∙ ap both_best (sym e))
+  best_of_both false z j w m e ez ej ew em =
+      let l = beats-false seen_best old (sym e) in
+      let a : z ≡ old.net = omega (arith, ints, clamps, ez, l) in
+      let k : int_min old.net net ≡ net = omega (arith, ints, clamps, l) in
+      let q : m ≡ max (max b.runner_up (natural r)) (natural net) = em ∙ ap (λ x. max (max b.runner_up (natural r)) (natural x)) k in
+      (λ i. bid (b.looked + n) (Some (record { net = a i; job = ej i; worth = ew i })) (q i)) ∙ sym (merged_is ∙ ap both_best (sym e))
