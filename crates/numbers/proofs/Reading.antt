@@ -1,12 +1,13 @@
 -- What reading takes: the bytes of a number, with anything behind them, and nothing else.
 use Rattle.std.proofs.Common.{◌≡◌, ℕ, zero, suc, ◌+◌, ◌-◌, ◌*◌, ◌/◌, ◌%◌, ◌^◌, ◌<◌, ◌≤◌, true, false, cond, ◌&&◌, eqb, ltb, List, [], ◌∷◌, ◌++◌, length, get_or, take, drop, Ok, Err, Result, sym, refl, ap, ◌∙◌, ⊎_elim, pow-suc, add-one, arith}
 use native.Mathlib.Nat.{pow-le-pow_right}
-use Rattle.std.proofs.lemmas.List.{drop_all, drop_more, get_or-take, length-take}
+use Rattle.std.proofs.lemmas.List.{drop_all, drop_more, get_or-take, length-drop, length-take}
 use Rattle.std.proofs.lemmas.Bool.{cases_lt, cases_eq, lt-ltb, le-ltb, eq-eqb, ne_eqb, and_from, and_right}
 use Rattle.std.specs.List.{AllByRecursion}
 use Rattle.refusals.specs.declared.Refusal.{Refusal}
 use Rattle.refusals.specs.declared.Refusal.TheVariants.{NumberCut, NumberPadded}
 use Rattle.numbers.specs.Groups.{encoded, before, decoded_in}
+use Rattle.numbers.specs.Reading.{placed, read_at}
 use Rattle.numbers.proofs.Groups.{encoded_small, encoded_large, pow_pos}
 
 decoded_last : (k b : ℕ) (bytes : List ℕ) → b < 128 → decoded_in (suc k) (b ∷ bytes) ≡ Ok (b, bytes)
@@ -157,3 +158,10 @@ module _ (bytes groups : List ℕ) (at : ℕ) (are : groups ≡ take 6 (drop at 
       at_more large =
           let e : 6 - (k + 1) ≡ 5 - k = omega arith in
           rw (e, drop_more (drop at bytes) k 0 group_inside, ← group_is, left k few) (decoded_more (5 - k) b (drop (k + 1) (drop at bytes)) large)
+
+-- a number of one group
+pub single_read : (bytes : List ℕ) (at b : ℕ) → at < length bytes → b ≡ get_or bytes at 0 → b < 128 → Ok (b, at + 1) ≡ read_at bytes at
+single_read bytes at b inside is small =
+    let there : drop at bytes ≡ b ∷ drop (at + 1) bytes = drop_more bytes at 0 inside ∙ ap (λ x. x ∷ drop (at + 1) bytes) (sym is) in
+    let n : length bytes - length (drop (at + 1) bytes) ≡ at + 1 = omega (arith, length-drop (at + 1) bytes) in
+    sym (ap (λ xs. placed bytes at (decoded_in 6 xs)) there ∙ ap (placed bytes at) (decoded_last 5 b (drop (at + 1) bytes) small) ∙ ap (λ m. Ok (b, m)) n)

@@ -1,6 +1,6 @@
 #![tactic(auto)]
 
-ghost use Rattle.std.specs.Prelude.{◌≡◌, ℕ, ◌+◌, ◌^◌, ◌<◌, ◌≤◌, ◌&&◌, List, length, take, drop, is_ok, IfOk, if◌then◌else◌, Ok, ◌==◌, nat_lt};
+ghost use Rattle.std.specs.Prelude.{◌≡◌, ℕ, ◌+◌, ◌^◌, ◌<◌, ◌≤◌, ◌&&◌, List, length, take, drop, is_ok, IfOk, if◌then◌else◌, Ok, Some, ◌==◌, nat_lt};
 ghost use Rattle.numbers.specs.Groups.{encoded};
 ghost use Rattle.numbers.specs.Laws.{ReadsExactly, Sized};
 ghost use Rattle.numbers.specs.Reading.{read_at};
@@ -17,6 +17,9 @@ pub fn read_number(bytes: &[u8], at: usize) -> Result<(u64, usize), Fault>
     ensures value { result ≡ read_at bytes.now at }
     ensures exact { ReadsExactly bytes.now at result }
 {
+    if let Some(read) = read_single(bytes, at) {
+        return Ok(read);
+    }
     let groups = groups_from(bytes, at);
     let mut value = 0;
     let mut scale = 1;
@@ -35,6 +38,18 @@ pub fn read_number(bytes: &[u8], at: usize) -> Result<(u64, usize), Fault>
         return Err(Fault::at(Refusal::NumberCut, at));
     }
     Err(Fault::at(Refusal::NumberTooLong, at))
+}
+
+// The same of a number of one group, as most are; nothing where more groups follow, or none is there.
+fn read_single(bytes: &[u8], at: usize) -> Option<(u64, usize)>
+    ensures { (x : ℕ × ℕ) → result ≡ Some x → Ok x ≡ read_at bytes.now at }
+{
+    let group = *bytes.get(at)?;
+    if group < 128 {
+        Some((u64::from(group), at + 1))
+    } else {
+        None
+    }
 }
 
 // The bytes from a place on, and no more of them than a number may have.

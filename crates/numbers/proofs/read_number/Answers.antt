@@ -116,3 +116,6 @@ returns c =
     let e : decoded_in (6 - c.loop-k.k) (drop c.loop-k.k (drop at bytes)) ≡ Err NumberTooLong = rw k in
     let v = refused bytes at NumberTooLong c.at-2.result c.at-2.ensures (c.loop-k.invariant.2 ∙ ap (after c.loop-k.k c.loop-k.value) e) in
     record { value = v; exact = exactly bytes at (Err c.at-2.result) c.type_inv.bytes v }
+
+pub returns-in-Some-clause-exact : goal.returns-in-Some-clause-exact
+returns-in-Some-clause-exact c = exactly c.args.bytes.now c.args.at (Ok c.in-Some.read) c.type_inv.bytes (c.read_single.ensures c.in-Some.read c.in-Some.is)
