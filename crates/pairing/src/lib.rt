@@ -13,7 +13,7 @@ use crate::putting::put_number;
 use auction::standing::Standing;
 use outputs::Output;
 use refusals::Refusal;
-use sheetfile::whole::{MOST_ENTRIES, MOST_STARTS, load_short, load_within, sheet_over};
+use sheetfile::whole::{MOST_ENTRIES, MOST_STARTS, load_once, sheet_over};
 use sources::checks::MOST_CARRIERS;
 use sources::form::Entry;
 use sources::source::Source;
@@ -56,7 +56,7 @@ fn list_short(sheet: &[u8], out: &mut [u8]) -> Result<usize, Refusal>
 {
     let mut starts = [0usize; MOST_STARTS];
     let mut entries = [Entry { job: 0, worth: 0 }; FEW_ENTRIES];
-    let heading = load_short(sheet, &mut starts, &mut entries).map_err(|fault| fault.refusal)?;
+    let heading = load_once(sheet, &mut starts, &mut entries).map_err(|fault| fault.refusal)?;
     let source = sheet_over(heading, &starts, &entries).map_err(|fault| fault.refusal)?;
     list_source(&source, out)
 }
@@ -70,7 +70,7 @@ fn list_long(sheet: &[u8], out: &mut [u8]) -> Result<usize, Refusal>
 {
     let mut starts = [0usize; MOST_STARTS];
     let mut entries = [Entry { job: 0, worth: 0 }; MOST_ENTRIES];
-    let heading = load_within(sheet, &mut starts, &mut entries).map_err(|fault| fault.refusal)?;
+    let heading = load_once(sheet, &mut starts, &mut entries).map_err(|fault| fault.refusal)?;
     let source = sheet_over(heading, &starts, &entries).map_err(|fault| fault.refusal)?;
     list_source(&source, out)
 }

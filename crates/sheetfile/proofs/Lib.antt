@@ -12,3 +12,4 @@ pub mod Again
 pub mod Filling
 pub mod Known
 pub mod Small
+pub mod Once

@@ -1,5 +1,5 @@
 -- A short file needs no large table of entries: each entry takes two bytes at least.
-use Rattle.std.proofs.Common.{◌≡◌, ℕ, zero, suc, ◌+◌, ◌-◌, ◌*◌, ◌<◌, ◌≤◌, Bool, true, false, cond, ltb, leb, eqb, List, [], ◌∷◌, ◌++◌, length, drop, Ok, Err, Result, sym, refl, ap, ◌∙◌, subst, arith, length-drop}
+use Rattle.std.proofs.Common.{◌≡◌, ℕ, zero, suc, ◌+◌, ◌-◌, ◌*◌, ◌<◌, ◌≤◌, Bool, true, false, cond, ltb, leb, eqb, List, [], ◌∷◌, ◌++◌, length, drop, Ok, Err, Result, sym, refl, ap, ◌∙◌, subst, arith, length-drop, ◌⊎◌, ⊎_elim}
 use Rattle.std.proofs.lemmas.Bool.{cond-true, cond-false, le-leb, le-ltb}
 use Rattle.refusals.specs.Faults.{fault_at, fault_of}
 use Rattle.refusals.specs.declared.Fault.{Fault}
@@ -128,7 +128,8 @@ module _ (bs : List ℕ) (room more : ℕ) (enough : length bs ≤ 2 * room) (al
       go (Err e) = refl
       go (Ok h) = ap (λ q. and_then q (λ r. and_then (closed_at bs (entries_in r.0) r.1) (λ _. Ok (meaning_of h.0 r.0)))) (same_rows h.0 h.0.carriers 0 h.1 (omega arith))
 
-pub small_loaded : (bs : List ℕ) (starts room : ℕ) → starts ≡ 129 → length bs ≤ 2 * room → length bs ≤ 8192 → loaded bs starts room ≡ loaded_within bs
-small_loaded bs starts room is enough few =
-    ap (λ n. loaded bs n room) is ∙ same_loaded bs room 4096 enough (omega arith) 129
+pub room_loaded : (bs : List ℕ) (starts room : ℕ) → starts ≡ 129 → (room ≡ 4096) ⊎ ((length bs ≤ 2 * room) × (room ≤ 4096)) → length bs ≤ 32768 → loaded bs starts room ≡ loaded_within bs
+room_loaded bs starts room is enough few =
+    ap (λ n. loaded bs n room) is
+    ∙ ⊎_elim (λ e. ap (loaded bs 129) e) (λ p. same_loaded bs room 4096 p.0 (omega (arith, p.0, p.1)) 129) enough
     ∙ sym (cond-false {A = Result Meaning Fault} (ltb 32768 (length bs)) _ _ (le-ltb 32768 (length bs) (omega arith)))

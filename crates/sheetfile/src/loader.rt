@@ -89,7 +89,7 @@ impl<'a> Headed<'a> {
             return Err(Fault::bare(Refusal::NoRowLeft));
         }
         let mut ahead = self.reader;
-        let count = ahead.row_in(self.heading, room, self.used)?;
+        let count = ahead.row_in(self.heading, &mut [], room, self.used)?;
         if starts <= self.rows + 1 {
             return Err(Fault::bare(Refusal::TooShort));
         }

@@ -110,17 +110,19 @@ impl<'a> Reader<'a> {
         Ok(count as usize)
     }
 
-    // The same, after so many entries and for a table of so many in all; no table is written.
+    // The same, after so many entries and where there is room for so many in all.
     pub(crate) fn row_in(
         &mut self,
         heading: Heading,
+        table: &mut [Entry],
         room: usize,
         used: usize,
     ) -> Result<usize, Fault>
-        ensures { Reads self.old result self.new (row_count (row_in self.old.bytes.now heading room used self.old.at)) }
+        ensures reads { Reads self.old result self.new (row_count (row_in self.old.bytes.now heading room used self.old.at)) }
+        ensures held { HoldsRow (row_from self.old.bytes.now heading self.old.at) table.new }
     {
         let mut ahead = *self;
-        let count = ahead.row(heading, &mut [])?;
+        let count = ahead.row(heading, table)?;
         if room < used || room - used < count {
             return Err(Fault::bare(Refusal::TooShort));
         }

@@ -1,5 +1,5 @@
 // Whole files.
-ghost use Rattle.std.specs.Prelude.{◌≡◌, ◌*◌, ◌≤◌, length, IfOk, Ok};
+ghost use Rattle.std.specs.Prelude.{◌≡◌, ◌*◌, ◌≤◌, ◌⊎◌, length, IfOk, Ok};
 ghost use Rattle.numbers.specs.Writing.{over};
 ghost use Rattle.sheetfile.specs.Laws.{LoadsExactly};
 ghost use Rattle.sheetfile.specs.Layout.{SheetFile};
@@ -35,7 +35,7 @@ pub(crate) fn survey(bytes: &[u8], starts: usize, room: usize) -> Result<Heading
     let heading = reader.heading(starts)?;
     let mut used = 0;
     for _i in 0..heading.carriers {
-        let count = reader.row_in(heading, room, used)?;
+        let count = reader.row_in(heading, &mut [], room, used)?;
         used += count;
     }
     reader.total(used)?;
@@ -76,6 +76,30 @@ pub fn load(bytes: &[u8], starts: &mut [usize], entries: &mut [Entry]) -> Result
     load_surveyed(bytes, surveyed, starts, entries)
 }
 
+// Loads a whole file into the tables in one reading, and gives its heading: the sheet over the tables then means the file.
+// Where it is refused, the tables hold what was read until then.
+pub fn load_over(
+    bytes: &[u8],
+    starts: &mut [usize],
+    entries: &mut [Entry],
+) -> Result<Heading, Fault>
+    ensures answer { result ≡ heading_answer (loaded bytes.now (length starts.old) (length entries.old)) }
+    ensures filling { and_then result (λ h. sheet_in h starts.new entries.new) ≡ loaded bytes.now (length starts.old) (length entries.old) }
+{
+    let room = entries.len();
+    let mut reader = Reader::new(bytes);
+    let heading = reader.heading(starts.len())?;
+    starts[0] = 0;
+    let mut used = 0;
+    for i in 0..heading.carriers {
+        let count = reader.row_in(heading, &mut entries[used..], room, used)?;
+        used += count;
+        starts[i + 1] = used;
+    }
+    reader.total(used)?;
+    Ok(heading)
+}
+
 // The sheet over tables that hold one: of the starts, the first carriers + 1. It is refused as filling is, and never where
 // a load gave the heading and wrote the tables.
 pub fn sheet_over<'a>(
@@ -111,17 +135,19 @@ pub fn load_within(
     load(bytes, starts, entries)
 }
 
-// The same of a file with at most two bytes for each place of a table that may be smaller: each entry takes two bytes at
-// least, so no more room is needed.
-pub fn load_short(
+// The same in one reading, into a table that may be smaller where the file is short: each entry takes two bytes at least, so
+// a table with a place for each two bytes has room enough. Where it is refused, the tables hold what was read until then.
+pub fn load_once(
     bytes: &[u8],
     starts: &mut [usize; MOST_STARTS],
     entries: &mut [Entry],
 ) -> Result<Heading, Fault>
-    requires enough { length bytes.now ≤ 2 * length entries.old }
-    requires short { length bytes.now ≤ 8192 }
+    requires room { length entries.old ≡ 4096 ⊎ (length bytes.now ≤ 2 * length entries.old) × (length entries.old ≤ 4096) }
     ensures answer { result ≡ heading_answer (loaded_within bytes.now) }
     ensures filling { and_then result (λ h. sheet_in h starts.new entries.new) ≡ loaded_within bytes.now }
 {
-    load(bytes, starts, entries)
+    if bytes.len() > MOST_BYTES {
+        return Err(Fault::bare(Refusal::TooShort));
+    }
+    load_over(bytes, starts, entries)
 }

@@ -29,7 +29,7 @@ loop-i-init c =
 pub loop-i-preserved : goal.loop-i-preserved
 loop-i-preserved c =
     let l = c.loop-i in
-    let r = reads_ok c.in_ok-count.ensures in
+    let r = reads_ok c.in_ok-count.ensures.reads in
     let s = row_ok (row_in c.loop-i.reader.bytes.now c.in_ok-heading.heading c.args.room c.loop-i.used c.loop-i.reader.at) c.in_ok-count.count c.row_in.new.self.at r.0 in
     let is : row_in c.args.bytes.now c.in_ok-heading.heading c.args.room c.loop-i.used c.loop-i.reader.at ≡ Ok (s.0, c.row_in.new.self.at) =
     ap (λ b. row_in b c.in_ok-heading.heading c.args.room c.loop-i.used c.loop-i.reader.at) (sym l.invariant.3) ∙ s.1 in
@@ -47,7 +47,7 @@ returns-in_err-count c =
     let p = err_from_is_err_and c.from_residual-in_err-count.result c.from_residual-in_err-count.ensures.1 in
     let l = c.loop-i in
     let h = c.in_ok-heading.heading in
-    let e = row_err (row_in c.loop-i.reader.bytes.now c.in_ok-heading.heading c.args.room l.used l.reader.at) c.in_err-count.field-0.0 (reads_err c.in_err-count.ensures).0 in
+    let e = row_err (row_in c.loop-i.reader.bytes.now c.in_ok-heading.heading c.args.room l.used l.reader.at) c.in_err-count.field-0.0 (reads_err c.in_err-count.ensures.reads).0 in
     let f = rows_fault c.args.bytes.now h c.args.room (c.in_ok-heading.heading.carriers - c.loop-i._i) l.used l.reader.at c.in_err-count.field-0.0 (omega arith) (ap (λ b. row_in b c.in_ok-heading.heading c.args.room c.loop-i.used c.loop-i.reader.at) (sym l.invariant.3) ∙ e) in
     let first = heading_from_start c.new-reader.result c.args.bytes.now c.args.starts (ap (λ b. b.now) c.new-reader.ensures.bytes) c.new-reader.ensures.place ∙ (reads_ok c.in_ok-heading.ensures).0 in
     rw (p.1, p.2) (sym (ap heading_answer (load_headed c.args.bytes.now c.args.starts c.args.room h c.heading.new.self.at (Err c.in_err-count.field-0.0) first (l.invariant.4 ∙ ap (prefixed l.invariant.0) f))))

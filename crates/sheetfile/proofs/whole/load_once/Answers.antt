@@ -1,0 +1,12 @@
+use Rattle.std.proofs.Common.{length, ap, ◌∙◌, arith}
+use Rattle.sheetfile.specs.Tables.{heading_answer}
+use Rattle.sheetfile.proofs.Small.{room_loaded}
+use Rattle.sheetfile.proofs.whole.load_once.Goals as goal
+
+pub returns-clause-answer : goal.returns-clause-answer
+returns-clause-answer c =
+    c.load_over.ensures.answer ∙ ap heading_answer (room_loaded c.args.bytes.now (length c.args.starts.now) (length c.args.entries.now) c.told-starts c.requires.room (omega arith))
+
+pub returns-clause-filling : goal.returns-clause-filling
+returns-clause-filling c =
+    c.load_over.ensures.filling ∙ room_loaded c.args.bytes.now (length c.args.starts.now) (length c.args.entries.now) c.told-starts c.requires.room (omega arith)
