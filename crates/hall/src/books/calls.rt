@@ -198,7 +198,7 @@ impl Books {
         Ok(())
     }
 
-    #[inline(always)]
+    #[inline(never)]
     pub(crate) fn look<S: Source>(&mut self, source: &S, carrier: usize) -> Result<(), Refusal>
         requires { NotedOf (S.meaning source.now) self.old }
         ensures noted { self.new.noted ≡ self.old.noted }
