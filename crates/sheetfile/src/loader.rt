@@ -125,8 +125,7 @@ impl<'a> Headed<'a> {
         ensures entries { entries.new ≡ updated (next_row self.old (length starts.old) (length entries.old)) entries.old (entries_after_row self.old entries.old) }
     {
         let end = self.used + self.reader.announced()?;
-        self.reader
-            .row(self.heading, &mut entries[self.used..end])?;
+        self.reader.row(self.heading, &mut entries[self.used..end])?;
         starts[self.rows + 1] = end;
         self.rows += 1;
         self.used = end;

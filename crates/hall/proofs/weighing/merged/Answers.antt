@@ -19,7 +19,7 @@ returns c =
     let f3 : SFits w64 c.args.seen.runner_up = search rules in
     let r : c.positive.result ≡ natural c.args.seen.runner_up = simp to_z-of_z at c.positive.ensures in
     let m : c.max-2.result ≡ max (max c.args.bid.runner_up (natural c.args.seen.runner_up)) (natural (int_min c.in-Some.old.net c.args.seen.net)) =
-        c.max-2.ensures ∙ ap (λ x. max x c.positive-2.result) (c.max-runner_up.ensures ∙ ap (max c.args.bid.runner_up) r)
-        ∙ ap (max (max c.args.bid.runner_up (natural c.args.seen.runner_up))) (c.positive-2.ensures ∙ ap natural k) in
+    c.max-2.ensures ∙ ap (λ x. max x c.positive-2.result) (c.max-runner_up.ensures ∙ ap (max c.args.bid.runner_up) r)
+    ∙ ap (max (max c.args.bid.runner_up (natural c.args.seen.runner_up))) (c.positive-2.ensures ∙ ap natural k) in
     let b : c.is_better-is_best.result ≡ beats (record { net = c.args.seen.net; job = c.args.seen.job; worth = c.args.seen.worth }) c.in-Some.old = simp to_z-of_z at c.is_better-is_best.ensures in
     best_of_both c.args.bid c.args.entries s.net s.job s.worth s.runner_up old c.in-Some.is some c.is_better-is_best.result _ _ _ _ b z c.either.ensures c.either-2.ensures m

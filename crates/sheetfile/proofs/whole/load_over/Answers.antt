@@ -74,7 +74,7 @@ returns-in_err-total c =
     let p = err_from_is_err_and c.from_residual-in_err-total.result c.from_residual-in_err-total.ensures.1 in
     let l = c.loop-i in
     let first = heading_from_start c.new-reader.result c.args.bytes.now (length c.args.starts.now) (ap (λ b. b.now) c.new-reader.ensures.bytes) c.new-reader.ensures.place ∙ (reads_ok c.in_ok-heading.ensures).0 in
-    let q = load_closed c.args.bytes.now (length c.args.starts.now) (length c.args.entries.now) c.in_ok-heading.heading c.heading.new.self.at (c.in_ok-heading.heading.carriers - c.loop-i.i) l.used l.reader.at l.invariant.0     (Err c.in_err-total.field-0.0) first l.invariant.4 (omega arith) l.invariant.1 (ap (λ b. closed_at b c.loop-i.used c.loop-i.reader.at) (sym l.invariant.3) ∙ sym c.in_err-total.ensures) in
+    let q = load_closed c.args.bytes.now (length c.args.starts.now) (length c.args.entries.now) c.in_ok-heading.heading c.heading.new.self.at (c.in_ok-heading.heading.carriers - c.loop-i.i) l.used l.reader.at l.invariant.0 (Err c.in_err-total.field-0.0) first l.invariant.4 (omega arith) l.invariant.1 (ap (λ b. closed_at b c.loop-i.used c.loop-i.reader.at) (sym l.invariant.3) ∙ sym c.in_err-total.ensures) in
     rw (p.1, p.2) (record { answer = sym (ap heading_answer q); filling = sym q })
 
 pub returns : goal.returns
