@@ -2,5 +2,4 @@ pub mod Refusing
 pub mod PositionRows
 pub mod Reading
 pub mod Tables
-pub mod SheetEntries
 pub mod Worths

@@ -61,9 +61,4 @@ impl Source for Sheet<'_> {
         let entry = self.row(carrier)?.get(index)?;
         Some((entry.job, entry.worth))
     }
-
-    fn entry_there(&self, carrier: usize, index: usize) -> (usize, u64) {
-        let entry = self.entries[self.starts[carrier] + index];
-        (entry.job, entry.worth)
-    }
 }

@@ -1,5 +1,5 @@
 // What every source tells and promises.
-ghost use Rattle.std.specs.Prelude.{◌≡◌, ◌<◌, length, slice_index_or};
+ghost use Rattle.std.specs.Prelude.{◌≡◌, slice_index_or};
 ghost use Rattle.sources.specs.Meaning.{Meaning, Sound, row_len, row_of, entry_at};
 
 // A source of worth. Every question is told by its meaning, and no question alters it.
@@ -31,9 +31,9 @@ pub trait Source {
     fn entry(&self, carrier: usize, index: usize) -> Option<(usize, u64)>
         ensures { result ≡ entry_at (meaning self.now) carrier index };
 
-    // The same at a place that the row has. A source that reads it at once, with no test, writes its own.
+    // The same, and (0, 0) where there is no such row or place: plain numbers, for who knows how long the row is. A layer writes its own,
+    // over this call of the source below it.
     fn entry_there(&self, carrier: usize, index: usize) -> (usize, u64)
-        requires { index < length (row_of (meaning self.now) carrier) }
         ensures { result ≡ slice_index_or (row_of (meaning self.now) carrier) index (0, 0) }
     {
         self.entry(carrier, index).unwrap_or((0, 0))
