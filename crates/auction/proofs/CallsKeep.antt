@@ -11,10 +11,8 @@ use Rattle.auction.specs.Tally.{Tally}
 use Rattle.auction.specs.Rules.{between, start_answer, start_tally, start_tally_by, opened, once, called, settled}
 use Rattle.auction.specs.Runs.{beginning, ran}
 use Rattle.auction.specs.Calls.{tally_by, tally_from, tally_after}
-use Rattle.auction.specs.Laws.{AuctionLaws}
 use Rattle.auction.proofs.Invariant.{Invariant}
 use Rattle.auction.proofs.InvariantKept.{opened_invariant, call_keeps, settle_keeps}
-use Rattle.auction.proofs.LawsHold.{lawful_laws}
 use Rattle.auction.proofs.Steps.{steps_hold}
 
 -- P of the tally, if there is one.
@@ -66,6 +64,3 @@ module _ (m : Meaning) (sound : Sound m) where
 
   pub invariant_after : (calls : List Call) (t : Tally) → tally_after m calls ≡ Some t → Invariant m t
   invariant_after calls t e = subst (Holds (Invariant m)) e (calls_keep None calls tt)
-
-  pub laws_hold : (calls : List Call) (t : Tally) → tally_after m calls ≡ Some t → AuctionLaws m t
-  laws_hold calls t e = lawful_laws m sound t (invariant_after calls t e)

@@ -1,4 +1,4 @@
--- A hall is started exactly if a start was accepted.
+-- After a list of calls a hall is started exactly if it was before, or a start was accepted.
 use Rattle.std.proofs.Common.{◌≡◌, false, ◌||◌, List, [], ◌∷◌, is_some, is_ok, Some, None, Ok, Err, Option, Result, refl, sym, ap, ◌∙◌}
 use Rattle.std.proofs.Math.Bool.{or-false, or-true, or_assoc}
 use Rattle.sources.specs.Meaning.{Meaning}
@@ -7,7 +7,7 @@ use Rattle.auction.specs.declared.call.Call.{Call}
 use Rattle.auction.specs.declared.call.Call.TheVariants.{Start, Summon, Look, Settle, Run, PriceOf, HolderOf, StandingOf, TotalWorth, AllCounts}
 use Rattle.auction.specs.Tally.{Tally}
 use Rattle.auction.specs.Rules.{start_answer, start_tally_by, opened, once}
-use Rattle.auction.specs.Calls.{tally_by, tally_from, tally_after, is_start, has_start}
+use Rattle.auction.specs.Calls.{tally_by, tally_from, is_start, has_start}
 
 start_some : (r : Result (Unit {0}) Refusal) (new : Tally) (o : Option Tally) → is_some (start_tally_by r new o) ≡ (is_some o || is_ok r)
 start_some (Ok x) new o = sym (or-true (is_some o))
@@ -30,11 +30,8 @@ call_some m o (StandingOf i) = sym (or-false (is_some o))
 call_some m o TotalWorth = sym (or-false (is_some o))
 call_some m o AllCounts = sym (or-false (is_some o))
 
-from_some : (m : Meaning) (o : Option Tally) (calls : List Call) → is_some (tally_from m o calls) ≡ (is_some o || has_start m calls)
+pub started_from : (m : Meaning) (o : Option Tally) (calls : List Call) → is_some (tally_from m o calls) ≡ (is_some o || has_start m calls)
 unfolding tally_from
-from_some m o [] = sym (or-false (is_some o))
-from_some m o (c ∷ calls) =
-    from_some m (tally_by m o c) calls ∙ ap (λ z. (z || has_start m calls)) (call_some m o c) ∙ or_assoc (is_some o) (is_start m c) (has_start m calls)
-
-pub started_exactly : (m : Meaning) (calls : List Call) → is_some (tally_after m calls) ≡ has_start m calls
-started_exactly m calls = from_some m None calls
+started_from m o [] = sym (or-false (is_some o))
+started_from m o (c ∷ calls) =
+    started_from m (tally_by m o c) calls ∙ ap (λ z. (z || has_start m calls)) (call_some m o c) ∙ or_assoc (is_some o) (is_start m c) (has_start m calls)

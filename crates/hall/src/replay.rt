@@ -1,7 +1,7 @@
-// A list of calls on a new hall.
+// A list of calls on any hall, and on a new one.
 ghost use Rattle.std.specs.Prelude.{◌≡◌, true, false, length, is_ok, if◌then◌else◌, None, Ok, Err, nat_le};
 ghost use Rattle.hall.specs.InBooks.{tally_of};
-ghost use Rattle.hall.specs.Replayed.{Replayed};
+ghost use Rattle.hall.specs.Replayed.{Performed, Replayed};
 
 use crate::hall::Hall;
 use auction::call::{Answer, Call};
@@ -9,16 +9,15 @@ use refusals::Refusal;
 use sources::source::Source;
 
 impl<S: Source> Hall<S> {
-    // Performs the calls in their order on a hall that was never started, and writes each answer. Answers too few for the calls are refused, and then nothing is written or performed.
+    // Performs the calls in their order, and writes each answer. Answers too few for the calls are refused, and then nothing is written or performed.
     pub fn perform_all(
         &mut self,
         calls: &[Call],
         answers: &mut [Result<Answer, Refusal>],
     ) -> Result<(), Refusal>
-        requires { tally_of self.old.books ≡ None }
         ensures kept { self.new.source ≡ self.old.source }
         ensures fits { result ≡ (if nat_le (length calls.now) (length answers.old) then Ok tt else Err Refusal.TooShort) }
-        ensures replayed { is_ok result ≡ true → Replayed (S.meaning self.old.source) calls.now answers.old answers.new self.new.books }
+        ensures performed { is_ok result ≡ true → Performed (S.meaning self.old.source) calls.now answers.old answers.new (tally_of self.old.books) (tally_of self.new.books) }
         ensures refused { is_ok result ≡ false → (answers.new ≡ answers.old) × (self.new ≡ self.old) }
     {
         if calls.len() > answers.len() {

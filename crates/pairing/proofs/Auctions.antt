@@ -25,7 +25,7 @@ use Rattle.auction.specs.Laws.{AuctionLaws, ServedOrOut, job_served}
 use Rattle.auction.proofs.Steps.{steps_hold}
 use Rattle.hall.specs.declared.books.Books.{Books}
 use Rattle.hall.specs.InBooks.{tally_of}
-use Rattle.hall.specs.Replayed.{Replayed}
+use Rattle.hall.specs.Replayed.{Performed, Replayed}
 use Rattle.pairing.specs.Pairs.{Ends, PairsWell, auctioned, timed, two_calls}
 
 -- ---- the step stays
@@ -92,7 +92,13 @@ times_some g w some =
     (λ none. let z : w ≡ 0 = omega arith in let e : scaled g 0 ≡ 0 = ap (λ k. min k (2 ^ 60)) (mul-zero g) in absurd (omega (arith, ap (scaled g) z, e, some)))
     (cases_lt 0 w)
 
--- ---- what a replay of the two calls shows
+-- ---- what the two calls on a new hall show
+
+-- A hall that was made over a source owns it, and has no tally.
+pub as_new : {S : Type 0} (mean : S → Meaning) (s s' : S) (o : Option Tally) (before after : List (Result Answer Refusal)) (b : Option Books) → s' ≡ s → o ≡ None →
+    Performed (mean s') two_calls before after o (tally_of b) → Replayed (mean s) two_calls before after b
+as_new mean s s' o before after b same none p =
+    subst (λ z. Performed (mean z) two_calls before after None (tally_of b)) same (subst (λ z. Performed (mean s') two_calls before after z (tally_of b)) none p)
 
 module _ (m : Meaning) (n : ℕ) (is : n ≡ m.carriers) (before after : List (Result Answer Refusal)) (b : Option Books) (r : Replayed (times_of (n + 1) m) two_calls before after b) where
   pub tally_is : tally_of b ≡ auctioned m

@@ -1,27 +1,20 @@
-use Rattle.std.proofs.Common.{◌≡◌, rules, length, get_or, is_ok, Ok, Err, List, Result, [], ◌∷◌, sym, ap, ◌∙◌, subst, arith, Bor}
+use Rattle.std.proofs.Common.{◌≡◌, rules, length, get_or, is_ok, Err, sym, ap, ◌∙◌, subst, arith, Bor}
 use Rattle.sources.specs.declared.times.Times.{Times}
 use Rattle.sources.specs.Layers.{times_of}
-use Rattle.auction.specs.declared.call.Answer.{Answer}
-use Rattle.auction.specs.declared.call.Answer.TheVariants.{Accepted}
-use Rattle.refusals.specs.declared.Refusal.{Refusal}
 use Rattle.auction.specs.Calls.{counts_answer, standing_answer}
 use Rattle.auction.specs.declared.standing.Standing.TheVariants.{Out}
 use Rattle.auction.specs.Tally.{standing_at}
 use Rattle.hall.specs.InBooks.{tally_of}
-use Rattle.hall.specs.Replayed.{Replayed}
-use Rattle.pairing.specs.Pairs.{Ends, auctioned, two_calls}
-use Rattle.pairing.proofs.Auctions.{ends_refused, ends_well, noted_more, ok_same, pairs_well, standing_told}
+use Rattle.pairing.specs.Pairs.{Ends, auctioned}
+use Rattle.pairing.proofs.Auctions.{as_new, ends_refused, ends_well, noted_more, ok_same, pairs_well, standing_told}
 use Rattle.pairing.proofs.auctioning.hold_auction.Goals as goal
 use Rattle.pairing.proofs.auctioning.hold_auction.Goals.{in-Ok, in_default}
-
-abbrev first_answers : List (Result Answer Refusal)
-first_answers = Ok Accepted ∷ (Ok Accepted ∷ [])
 
 pub returns-in_err-answers : goal.returns-in_err-answers
 returns-in_err-answers g c =
     let m = g.S.Source.meaning c.args.source.now in
     let n = length c.args.standings.now in
-    let r = subst (λ (s : Times (Bor g.row.S.Denot)). Replayed (times_of s.factor (g.S.Source.meaning s.below.now)) two_calls first_answers c.perform_all.new.answers c.perform_all.new.self.books) c.new-hall.ensures.kept (c.perform_all.ensures.replayed (ap is_ok c.perform_all.ensures.fits)) in
+    let r = as_new (λ (s : Times (Bor g.row.S.Denot)). times_of s.factor (g.S.Source.meaning s.below.now)) _ _ _ _ c.perform_all.new.answers c.perform_all.new.self.books c.new-hall.ensures.kept c.new-hall.ensures.tallied (c.perform_all.ensures.performed (ap is_ok c.perform_all.ensures.fits)) in
     let back : c.from_residual.result ≡ Err c.in_err-answers.field-0.0 = search rules in
     record {
       ends = subst (λ o. Ends (auctioned m) o c.args.standings.now) (sym back) (ends_refused m n c.requires.each _ c.perform_all.new.answers c.perform_all.new.self.books r c.in_err-answers.field-0.0 _ c.args.standings.now c.in_err-answers.was);
@@ -34,7 +27,7 @@ loop-carrier-preserved g c t some =
     let n = length c.args.standings.now in
     let i = c.loop-carrier.carrier in
     let b = c.perform_all.new.self.books in
-    let r = subst (λ (s : Times (Bor g.row.S.Denot)). Replayed (times_of s.factor (g.S.Source.meaning s.below.now)) two_calls first_answers c.perform_all.new.answers c.perform_all.new.self.books) c.new-hall.ensures.kept (c.perform_all.ensures.replayed (ap is_ok c.perform_all.ensures.fits)) in
+    let r = as_new (λ (s : Times (Bor g.row.S.Denot)). times_of s.factor (g.S.Source.meaning s.below.now)) _ _ _ _ c.perform_all.new.answers c.perform_all.new.self.books c.new-hall.ensures.kept c.new-hall.ensures.tallied (c.perform_all.ensures.performed (ap is_ok c.perform_all.ensures.fits)) in
     let told = c.standing.ensures.answered ∙ ap (λ (s : Times (Bor g.row.S.Denot)). standing_answer i (times_of s.factor (g.S.Source.meaning s.below.now)) (tally_of b)) (c.perform_all.ensures.kept ∙ c.new-hall.ensures.kept)
     ∙ standing_told m n c.requires.each _ c.perform_all.new.answers b r t some i c.loop-carrier-test.true in
     elim c.match-standing.branch [
@@ -49,7 +42,7 @@ returns g c =
     let m = g.S.Source.meaning c.args.source.now in
     let n = length c.args.standings.now in
     let b = c.perform_all.new.self.books in
-    let r = subst (λ (s : Times (Bor g.row.S.Denot)). Replayed (times_of s.factor (g.S.Source.meaning s.below.now)) two_calls first_answers c.perform_all.new.answers c.perform_all.new.self.books) c.new-hall.ensures.kept (c.perform_all.ensures.replayed (ap is_ok c.perform_all.ensures.fits)) in
+    let r = as_new (λ (s : Times (Bor g.row.S.Denot)). times_of s.factor (g.S.Source.meaning s.below.now)) _ _ _ _ c.perform_all.new.answers c.perform_all.new.self.books c.new-hall.ensures.kept c.new-hall.ensures.tallied (c.perform_all.ensures.performed (ap is_ok c.perform_all.ensures.fits)) in
     let first = c.in_ok-answers.was in
     record {
       ends = ends_well m n c.requires.each _ c.perform_all.new.answers b r _ c.in_ok-answers.field-0 c.counts.result c.loop-carrier.standings first

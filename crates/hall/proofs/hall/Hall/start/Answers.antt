@@ -1,7 +1,9 @@
-use Rattle.std.proofs.Common.{None}
+use Rattle.std.proofs.Common.{Some, None, ap, ◌∙◌}
 use Rattle.auction.specs.declared.call.Call.TheVariants.{Start}
 use Rattle.auction.specs.Calls.{tally_by}
+use Rattle.auction.specs.Rules.{opened, start_tally_by}
 use Rattle.auction.proofs.Reaching.{reached_none, reached_more}
+use Rattle.hall.specs.InBooks.{tally_of}
 use Rattle.hall.proofs.hall.Hall.start.Goals as goal
 
 -- A start leads from every tally to the same, so from none too.
@@ -9,4 +11,8 @@ pub invariant_of-self-clause-reached : goal.invariant_of-self-clause-reached
 unfolding tally_by
 invariant_of-self-clause-reached g c =
     let m = g.S.Source.meaning c.args.self.now.source in
-    reached_more m None _ (Start c.args.step c.args.lanes) (reached_none m) c.in_ok-start.ensures.started.1
+    let n = c.args.step in
+    let lanes = c.args.lanes in
+    reached_more m None (tally_of (Some c.fresh.result)) (Start n lanes) (reached_none m)
+    (ap Some (c.fresh.ensures.opened ∙ ap (λ h. opened h.carriers h.jobs n lanes) c.heading_of.ensures)
+    ∙ ap (λ r. start_tally_by r (opened m.carriers m.jobs n lanes) None) c.in_ok-check_start.ensures)
