@@ -1,17 +1,17 @@
 -- The entries of a look among themselves, and beside the bid so far.
-use Rattle.std.proofs.Common.{◌≡◌, ℕ, zero, suc, ◌+◌, ◌-◌, ◌^◌, ◌<◌, ◌≤◌, max, Bool, true, false, cond, ◌&&◌, ◌||◌, eqb, ltb, ◌⊎◌, List, [], ◌∷◌, ℤ, pos, negsuc, ◌-ℤ◌, Some, None, fold, Option, sym, refl, ap, ◌∙◌, subst, inl, inr, ⊎_elim, add-zero, arith, min, length, take, drop, get_or, length-drop}
+use Rattle.std.proofs.Common.{◌≡◌, ℕ, ◌+◌, ◌-◌, ◌^◌, ◌<◌, ◌≤◌, max, Bool, true, false, cond, ◌&&◌, ◌||◌, eqb, ◌⊎◌, List, [], ◌∷◌, ℤ, pos, ◌-ℤ◌, Some, None, fold, Option, sym, refl, ap, ◌∙◌, inl, inr, ⊎_elim, arith, min, length, take, drop, get_or, length-drop}
 use lib.Signed.{◌≤ℤ◌, lt_z, le_z}
 use Rattle.std.specs.Int.{int_max, int_min}
-use borrow.Author.Differences.{up, down, ints, lt-true, lt-false, true_is_lt, false_is_lt}
-use Rattle.std.proofs.lemmas.Int.{clamps, int_max_is, int_min_is}
-use Rattle.std.proofs.lemmas.Bool.{both_ways, eqb-true, ne_eqb, eq-eqb, le-ltb, cases_Bool, cond-true, cond-false}
+use borrow.Author.Differences.{up, ints, lt-true, lt-false}
+use Rattle.std.proofs.lemmas.Int.{clamps}
+use Rattle.std.proofs.lemmas.Bool.{both_ways, eqb-true, eq-eqb, le-ltb, cases_Bool, cond-true, cond-false}
 use Rattle.auction.specs.declared.standing.Best.{Best}
 use Rattle.auction.specs.declared.standing.Bid.{Bid}
 use Rattle.auction.specs.Bids.{natural, beats, fresh, ranked, weighed, weighed_at, looked_on}
 use Rattle.std.proofs.lemmas.List.{take_min, get_or-drop}
 use Rattle.std.proofs.lemmas.List.Sums.{fold_more}
 use Rattle.auction.proofs.Nets.{natural-up, beats-true, beats-false, sides, better, no_better, still_no_better}
-use Rattle.hall.specs.Seeing.{least, best_in, bid_in, merged, merged_best, merged_two}
+use Rattle.hall.specs.Seeing.{least, bid_in, merged, merged_best, merged_two}
 
 -- ---- one more entry
 

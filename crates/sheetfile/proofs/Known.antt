@@ -1,5 +1,5 @@
 -- A row that is known to be accepted.
-use Rattle.std.proofs.Common.{◌≡◌, ℕ, zero, suc, ◌+◌, ◌<◌, ◌≤◌, true, List, [], ◌∷◌, ◌++◌, length, is_ok, Ok, Err, Result, sym, refl, ap, ◌∙◌, subst, arith}
+use Rattle.std.proofs.Common.{◌≡◌, ℕ, zero, suc, ◌+◌, true, List, [], ◌∷◌, ◌++◌, length, is_ok, Ok, Err, Result, sym, refl, ap, ◌∙◌}
 use Rattle.std.proofs.lemmas.Bool.{false≢true}
 use Rattle.refusals.specs.declared.Fault.{Fault}
 use Rattle.numbers.specs.Reading.{read_at}
@@ -8,7 +8,7 @@ use Rattle.sheetfile.specs.Layout.{Row}
 use Rattle.sheetfile.specs.Readers.{value_of}
 use Rattle.sheetfile.specs.Reading.{entries_from, entry_from, row_from}
 use Rattle.sheetfile.specs.States.{next_row}
-use Rattle.sheetfile.specs.Steps.{and_then, prefixed}
+use Rattle.sheetfile.specs.Steps.{prefixed}
 use Rattle.sheetfile.specs.declared.loader.Headed.{Headed}
 use Rattle.sheetfile.proofs.Steps.{err_not_ok, followed, ok_same}
 use Rattle.sheetfile.proofs.Tables.{row_accepted}

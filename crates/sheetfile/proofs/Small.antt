@@ -4,13 +4,13 @@ use Rattle.std.proofs.lemmas.Bool.{cond-true, cond-false, le-leb, le-ltb}
 use Rattle.refusals.specs.Faults.{fault_at, fault_of}
 use Rattle.refusals.specs.declared.Fault.{Fault}
 use Rattle.refusals.specs.declared.Refusal.{Refusal}
-use Rattle.refusals.specs.declared.Refusal.TheVariants.{JobOutOfOrder, NumberPadded, TooShort, WorthOutside}
+use Rattle.refusals.specs.declared.Refusal.TheVariants.{NumberPadded, TooShort}
 use Rattle.numbers.specs.Groups.{before, decoded, decoded_in}
 use Rattle.numbers.specs.Reading.{placed, read_at}
 use Rattle.sources.specs.Meaning.{Meaning}
 use Rattle.sources.specs.declared.form.Heading.{Heading}
 use Rattle.sheetfile.specs.Layout.{Row, entries_in, meaning_of}
-use Rattle.sheetfile.specs.Reading.{closed_at, entries_from, entry_from, heading_in, job_from, loaded, loaded_within, number_from, row_from, row_in, rows_from, worth_from}
+use Rattle.sheetfile.specs.Reading.{closed_at, entries_from, entry_from, heading_in, job_from, loaded, loaded_within, number_from, row_from, rows_from, worth_from}
 use Rattle.sheetfile.specs.Steps.{and_then, prefixed, room_for}
 use Rattle.sheetfile.proofs.Steps.{err_not_ok, followed, ok_same, tested}
 

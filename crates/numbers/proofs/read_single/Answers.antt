@@ -1,6 +1,5 @@
-use Rattle.std.proofs.Common.{◌≡◌, ℕ, ◌+◌, ◌<◌, length, get_or, Ok, Result, sym, ap, ◌∙◌, rules, arith}
+use Rattle.std.proofs.Common.{◌≡◌, ℕ, ◌+◌, ◌<◌, length, get_or, Ok, sym, ap, ◌∙◌, rules, arith}
 use Rattle.std.proofs.lemmas.Bool.{ltb-true}
-use Rattle.refusals.specs.declared.Fault.{Fault}
 use Rattle.numbers.proofs.Reading.{single_read}
 use Rattle.numbers.proofs.read_single.Goals as goal
 

@@ -2,7 +2,6 @@ use Rattle.std.proofs.Common.{◌≡◌, max, eqb, false, SFits, w64, to_z, of_z
 use Rattle.std.specs.Int.{int_max, int_min}
 use borrow.Author.Differences.{ints}
 use Rattle.std.proofs.lemmas.Int.{clamps, to_z-of_z}
-use Rattle.std.proofs.lemmas.Bool.{ne_eqb}
 use Rattle.auction.specs.Bids.{beats, natural}
 use Rattle.hall.proofs.Seeing.{best_of_both}
 use Rattle.hall.proofs.weighing.merged.Goals as goal

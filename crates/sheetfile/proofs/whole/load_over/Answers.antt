@@ -1,4 +1,4 @@
-use Rattle.std.proofs.Common.{◌≡◌, ◌<◌, ◌≤◌, length, take, drop, set, length-drop, length-take, ◌+◌, ◌-◌, [], ◌∷◌, ◌++◌, Ok, Err, sym, refl, ap, ◌∙◌, subst, arith}
+use Rattle.std.proofs.Common.{◌≡◌, length, drop, length-drop, length-take, ◌+◌, ◌-◌, [], ◌∷◌, ◌++◌, Ok, Err, sym, refl, ap, ◌∙◌, subst, arith}
 use Rattle.std.proofs.lemmas.Result.{err_from_is_err_and}
 use Rattle.sheetfile.specs.Reading.{closed_at, loaded, row_from, row_in, rows_from}
 use Rattle.sheetfile.specs.Steps.{prefixed}

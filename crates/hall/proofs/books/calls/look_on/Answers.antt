@@ -1,5 +1,5 @@
 -- An entry that is there has a known job and a worth under the ceiling.
-use Rattle.std.proofs.Common.{◌≡◌, ℕ, ◌+◌, ◌-◌, ◌^◌, ◌<◌, ◌≤◌, length, get_or, take, drop, sym, ap, ◌∙◌, subst, arith, rules, refl, fold}
+use Rattle.std.proofs.Common.{◌≡◌, ℕ, ◌+◌, ◌-◌, ◌<◌, ◌≤◌, length, get_or, take, drop, ap, ◌∙◌, subst, arith, rules, refl, fold}
 use Rattle.std.proofs.lemmas.List.{get_or-take}
 use Rattle.sources.specs.Meaning.{row_of}
 use Rattle.sources.proofs.Reading.{row_known, row_within, row_rising, rising_apart}

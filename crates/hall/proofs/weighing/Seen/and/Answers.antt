@@ -1,9 +1,8 @@
-use Rattle.std.proofs.Common.{◌≡◌, ◌+◌, cond, SFits, w64, to_z, of_z, refl, sym, ap, ◌∙◌, rules, arith, inl, inr, ⊎_elim}
+use Rattle.std.proofs.Common.{◌≡◌, ◌+◌, cond, SFits, w64, to_z, of_z, refl, sym, ◌∙◌, rules, arith, inl, inr, ⊎_elim}
 use lib.Signed.{◌≤ℤ◌, lt_z}
 use Rattle.std.specs.Int.{int_max, int_min}
 use borrow.Author.Differences.{ints}
 use Rattle.std.proofs.lemmas.Int.{clamps, to_z-of_z}
-use Rattle.auction.specs.Bids.{weighed_at}
 use Rattle.hall.specs.Seeing.{least, bid_in}
 use Rattle.hall.proofs.Seeing.{seen_step, still_none, still_rises}
 use Rattle.hall.proofs.weighing.Seen.and.Goals as goal

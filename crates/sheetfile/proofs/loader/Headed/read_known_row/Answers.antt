@@ -1,4 +1,4 @@
-use Rattle.std.proofs.Common.{◌≡◌, ◌+◌, ◌-◌, ◌≤◌, map, length, drop, ◌∙◌, sym, ap, arith, rules, Ok, set}
+use Rattle.std.proofs.Common.{◌≡◌, ◌+◌, ◌-◌, ◌≤◌, map, length, drop, ◌∙◌, sym, ap, arith, rules, set}
 use Rattle.std.proofs.lemmas.List.{length-drop, length-map, length-take}
 use Rattle.sources.specs.Tables.{entry_of}
 use Rattle.sheetfile.specs.Readers.{reader_after}
