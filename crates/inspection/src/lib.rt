@@ -1,15 +1,14 @@
 // What `inspect` prints of a sheet file.
 #![tactic(auto)]
 
-ghost use Rattle.std.specs.Prelude.{◌≡◌, ◌≤◌, ◌++◌, length, IfOk, OnOk, string_bytes};
-ghost use Rattle.inspection.specs.Inspected.{Lists, Tells};
+ghost use Rattle.std.specs.Prelude.{◌≡◌, ◌++◌, length, IfOk, OnOk, string_bytes};
+ghost use Rattle.inspection.specs.Inspected.{Lists, Tells, TellsFile};
 ghost use Rattle.sheetfile.specs.Reading.{loaded, loaded_within};
 ghost use Rattle.inspection.specs.Listing.{row_line, sheet_text};
 ghost use Rattle.sources.specs.Meaning.{row_of};
 ghost use Rattle.sources.specs.OfSheet.{sheet_meaning};
 
 use refusals::{Fault, Refusal};
-use sheetfile::rewriting::rewrite;
 use sheetfile::whole::{MOST_STARTS, load, sheet_over};
 use sources::asking::{entries, heading_of, row_length};
 use sources::form::{Entry, Heading};
@@ -21,10 +20,12 @@ use texts::{Failure, Printed};
 // The most bytes that are inspected, and the most entries of a sheet that is.
 pub use sheetfile::whole::{MOST_BYTES, MOST_ENTRIES};
 
-// Loads some bytes as a sheet file, writes it again, and lists what it holds. More than 32,768 bytes are refused before
-// any is read. It fails only for want of memory.
+// Loads some bytes as a sheet file, and lists what it holds. Written again it would be the same bytes, as the text says:
+// that is proved, so it is not tried. More than 32,768 bytes are refused before any is read. It fails only for want of
+// memory.
 pub fn inspect_sheet(heap: Global, bytes: &[u8]) -> Result<Printed<Fault>, AllocError>
-    ensures { IfOk result (λ p. Tells p (length bytes.now) (loaded_within bytes.now)) }
+    ensures told { IfOk result (λ p. Tells p (length bytes.now) (loaded_within bytes.now)) }
+    ensures file { IfOk result (λ p. TellsFile p bytes.now) }
 {
     Printed::telling(heap, "refused ", listed(heap, bytes))
 }
@@ -38,22 +39,18 @@ fn listed(heap: Global, bytes: &[u8]) -> Result<String, Failure<Fault>>
     }
     let mut starts = vec![in heap; 0usize; MOST_STARTS]?;
     let mut entries = vec![in heap; Entry { job: 0, worth: 0 }; MOST_ENTRIES]?;
-    let mut out = vec![in heap; 0u8; bytes.len()]?;
-    list_file(heap, bytes, &mut starts, &mut entries, &mut out)
+    list_file(heap, bytes, &mut starts, &mut entries)
 }
 
-// The lines of a sheet file, which is loaded and written again before it is listed.
+// The lines of a sheet file, which is loaded into the tables.
 fn list_file(
     heap: Global,
     bytes: &[u8],
     starts: &mut [usize],
     entries: &mut [Entry],
-    out: &mut [u8],
 ) -> Result<String, Failure<Fault>>
-    requires { length bytes.now ≤ length out.old }
     ensures { Lists (length bytes.now) (loaded bytes.now (length starts.old) (length entries.old)) result }
 {
-    rewrite(bytes, starts, entries, out).map_err(Failure::Refused)?;
     let heading = load(bytes, starts, entries).map_err(Failure::Refused)?;
     let sheet = sheet_over(heading, starts, entries).map_err(Failure::Refused)?;
     Ok(list_sheet(heap, &sheet, bytes.len())?)

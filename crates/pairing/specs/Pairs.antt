@@ -8,6 +8,7 @@ use Rattle.refusals.specs.Numbering.{number_of}
 use Rattle.numbers.specs.Writing.{over}
 use Rattle.sources.specs.Meaning.{Meaning}
 use Rattle.sources.specs.Layers.{times_of}
+use Rattle.sheetfile.specs.Layout.{SheetFile}
 use Rattle.sheetfile.specs.Reading.{loaded_within}
 use Rattle.sheetfile.specs.Steps.{and_then, room_for, updated}
 use Rattle.auction.specs.declared.call.Call.{Call}
@@ -16,7 +17,7 @@ use Rattle.auction.specs.declared.standing.Counts.{Counts}
 use Rattle.auction.specs.declared.standing.Standing.{Standing}
 use Rattle.auction.specs.Tally.{Tally}
 use Rattle.auction.specs.Calls.{tally_after}
-use Rattle.auction.specs.Laws.{Pairing, ServedOrOut, pairing_of, worth}
+use Rattle.auction.specs.Laws.{Among, Pairing, ServedOrOut, pairing_of, worth}
 use Rattle.pairing.specs.Listing.{listing, refused_line}
 
 -- Step 1 and lanes 8; depth 8 and budget 1,000,000.
@@ -85,15 +86,24 @@ abbrev pub Ends : Option Tally → Result Counts Refusal → List Standing → T
 Ends None r ss = r ≡ Err CountsOutside
 Ends (Some t) r ss = (r ≡ Ok t.counts) × (ss ≡ t.standings)
 
--- What is told of a tally is a pairing of the sheet; and if every carrier is served or out, no pairing of the sheet is worth more.
+-- What is told of a tally is a pairing of the sheet, and no pairing of the carriers that are served or out is worth more.
+-- So if every carrier is, no pairing of the sheet is worth more.
 pub record WellPaired (m : Meaning) (t : Tally) : Type 0 where
   pub own : Pairing m (pairing_of t)
-  pub best : AllByRecursion ServedOrOut t.standings → (p : List (Option ℕ)) → Pairing m p → worth m p ≤ worth m (pairing_of t)
+  pub best : (p : List (Option ℕ)) → Pairing m p → Among t p → worth m p ≤ worth m (pairing_of t)
+  pub best_of_all : AllByRecursion ServedOrOut t.standings → (p : List (Option ℕ)) → Pairing m p → worth m p ≤ worth m (pairing_of t)
 
 -- That holds of the tally that the auction of a sheet ends with.
 abbrev pub PairsWell : Meaning → Type 0
 PairsWell m = (t : Tally) → auctioned m ≡ Some t → WellPaired m t
 
--- That holds of the sheet that the bytes are the file of, if they are one.
-abbrev pub FilePairsWell : List ℕ → Type 0
-FilePairsWell bytes = (m : Meaning) → loaded_within bytes ≡ Ok m → PairsWell m
+-- A text lists what the auction of a sheet ends with, which is well paired.
+pub record ListsPairs (m : Meaning) (text : List ℕ) : Type 0 where
+  pub tally : Tally
+  pub ended : auctioned m ≡ Some tally
+  pub told : text ≡ listing m tally.standings tally.counts
+  pub paired : WellPaired m tally
+
+-- The bytes are the file of a sheet, and a text lists that sheet's pairs.
+abbrev pub ListsFile : List ℕ → List ℕ → Type 0
+ListsFile bytes text = (m : Meaning) × SheetFile bytes m × ListsPairs m text

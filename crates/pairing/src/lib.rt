@@ -1,25 +1,27 @@
 // Pairs the carriers and jobs of a sheet file.
 #![tactic(auto)]
 
-ghost use Rattle.std.specs.Prelude.{◌≡◌, ◌≤◌, length};
+ghost use Rattle.std.specs.Prelude.{◌≡◌, ℕ, ◌≤◌, take, length, Ok, None};
 ghost use Rattle.numbers.specs.Writing.{over};
 ghost use Rattle.outputs.specs.Puts.{Puts};
 ghost use Rattle.pairing.specs.Listing.{refused_line};
-ghost use Rattle.pairing.specs.Pairs.{AtMost, FilePairsWell, PairsWell, auctioned, fitted, listed, listed_within, listing_after, printed, put_into, refusal_in, sized};
+ghost use Rattle.pairing.specs.Pairs.{AtMost, ListsFile, ListsPairs, auctioned, fitted, listed, listed_within, listing_after, printed, put_into, refusal_in, sized};
 
 use crate::auctioning::hold_auction;
 use crate::listing::Ended;
+use crate::loading::load_once;
 use crate::putting::put_number;
 use auction::standing::Standing;
 use outputs::Output;
 use refusals::Refusal;
-use sheetfile::whole::{MOST_ENTRIES, MOST_STARTS, load_once, sheet_over};
+use sheetfile::whole::{MOST_ENTRIES, MOST_STARTS, sheet_over};
 use sources::checks::MOST_CARRIERS;
 use sources::form::Entry;
 use sources::source::Source;
 
 mod auctioning;
 mod listing;
+mod loading;
 mod putting;
 
 // The most bytes that are printed: 64 for each of 128 carriers, and 128.
@@ -34,7 +36,7 @@ const FEW_ENTRIES: usize = 512;
 pub fn list_pairs(sheet: &[u8], out: &mut [u8]) -> Result<usize, Refusal>
     ensures answer { result ≡ sized (listed_within sheet.now (length out.old)) }
     ensures after { out.new ≡ put_into out.old (listed_within sheet.now (length out.old)) }
-    ensures paired { FilePairsWell sheet.now }
+    ensures paired { (n : ℕ) → result ≡ Ok n → ListsFile sheet.now (take n out.new) }
     ensures short { AtMost 8320 (listed sheet.now) }
 {
     // Tables of a fixed size, here and below: no heap is used, since C calls it. A short file gets a small one, since it takes
@@ -51,7 +53,7 @@ fn list_short(sheet: &[u8], out: &mut [u8]) -> Result<usize, Refusal>
     requires { length sheet.now ≤ 1024 }
     ensures answer { result ≡ sized (listed_within sheet.now (length out.old)) }
     ensures after { out.new ≡ put_into out.old (listed_within sheet.now (length out.old)) }
-    ensures paired { FilePairsWell sheet.now }
+    ensures paired { (n : ℕ) → result ≡ Ok n → ListsFile sheet.now (take n out.new) }
     ensures short { AtMost 8320 (listed sheet.now) }
 {
     let mut starts = [0usize; MOST_STARTS];
@@ -65,7 +67,7 @@ fn list_short(sheet: &[u8], out: &mut [u8]) -> Result<usize, Refusal>
 fn list_long(sheet: &[u8], out: &mut [u8]) -> Result<usize, Refusal>
     ensures answer { result ≡ sized (listed_within sheet.now (length out.old)) }
     ensures after { out.new ≡ put_into out.old (listed_within sheet.now (length out.old)) }
-    ensures paired { FilePairsWell sheet.now }
+    ensures paired { (n : ℕ) → result ≡ Ok n → ListsFile sheet.now (take n out.new) }
     ensures short { AtMost 8320 (listed sheet.now) }
 {
     let mut starts = [0usize; MOST_STARTS];
@@ -80,7 +82,7 @@ fn list_source<S: Source>(source: &S, out: &mut [u8]) -> Result<usize, Refusal>
     requires { (S.Source.meaning source.now).carriers ≤ 128 }
     ensures answer { result ≡ sized (fitted (length out.old) (listing_after (S.Source.meaning source.now) (auctioned (S.Source.meaning source.now)))) }
     ensures after { out.new ≡ put_into out.old (fitted (length out.old) (listing_after (S.Source.meaning source.now) (auctioned (S.Source.meaning source.now)))) }
-    ensures paired { PairsWell (S.Source.meaning source.now) }
+    ensures paired { (n : ℕ) → result ≡ Ok n → ListsPairs (S.Source.meaning source.now) (take n out.new) }
     ensures short { AtMost 8320 (listing_after (S.Source.meaning source.now) (auctioned (S.Source.meaning source.now))) }
 {
     let mut places = [Standing::Waiting; MOST_CARRIERS];
@@ -113,7 +115,7 @@ pub fn print_pairs(sheet: &[u8], text: &mut [u8; MOST_TEXT]) -> Printed
     ensures len { result.len ≡ length (printed (listed sheet.now)) }
     ensures text { text.new ≡ over text.old 0 (printed (listed sheet.now)) }
     ensures refusal { result.refusal ≡ refusal_in (listed sheet.now) }
-    ensures paired { FilePairsWell sheet.now }
+    ensures paired { result.refusal ≡ None → ListsFile sheet.now (take result.len text.new) }
 {
     match list_pairs(sheet, text) {
         Ok(len) => Printed { len, refusal: None },

@@ -11,10 +11,10 @@ use Rattle.sources.specs.Sheets.{within_limits}
 use Rattle.sources.specs.Tables.{Fillable, heading_of}
 use Rattle.sources.specs.declared.form.Heading.{Heading}
 use Rattle.sheetfile.specs.Laws.{WritesLoadable}
-use Rattle.sheetfile.specs.Layout.{Row, SheetFile}
+use Rattle.sheetfile.specs.Layout.{Row, SheetFile, file_of, meaning_of}
 use Rattle.sheetfile.specs.Steps.{room_for}
 use Rattle.sheetfile.specs.Writing.{nonzero, without_zeros, write_answer, written}
-use Rattle.sheetfile.proofs.Bounds.{RowIn, fillable, limits}
+use Rattle.sheetfile.proofs.Bounds.{RowIn, bounded, fillable, limits}
 use Rattle.sheetfile.proofs.Exact.{file_back}
 use Rattle.sheetfile.proofs.Steps.{room_there}
 
@@ -42,13 +42,17 @@ written_in m s is =
     fillable (without_zeros m) (record { headed = limits (heading_of m) is; counted = length-map m.rows nonzero ∙ s.counted; good = all_kept_in (heading_of m) m.rows s.rising s.known s.within })
 
 -- a row of the layout has no zero entries
-pub no_zeros : (h : Heading) (low : ℕ) (row : Row) → RowIn h low row → nonzero row ≡ row
+no_zeros : (h : Heading) (low : ℕ) (row : Row) → RowIn h low row → nonzero row ≡ row
 no_zeros h low [] r = refl
 no_zeros h low (e ∷ es) r = let a = r.0.some in cond-true (ltb 0 e.1) (e ∷ nonzero es) (nonzero es) (lt-ltb 0 e.1 (omega arith)) ∙ ap (λ l. e ∷ l) (no_zeros h (e.0 + 1) es r.1)
 
-pub no_zeros_in : (h : Heading) (rows : List Row) → AllByRecursion (RowIn h 0) rows → map nonzero rows ≡ rows
+no_zeros_in : (h : Heading) (rows : List Row) → AllByRecursion (RowIn h 0) rows → map nonzero rows ≡ rows
 no_zeros_in h [] r = refl
 no_zeros_in h (row ∷ rows) r = ap (λ x. x ∷ map nonzero rows) (no_zeros h 0 row r.0) ∙ ap (λ l. row ∷ l) (no_zeros_in h rows r.1)
+
+-- what is written of a sheet file are the same bytes
+pub same_bytes : (m : Meaning) (bytes : List ℕ) → SheetFile bytes m → written m ≡ bytes
+same_bytes m bytes file = ap (λ rows. file_of (meaning_of (heading_of m) rows)) (no_zeros_in (heading_of m) m.rows (bounded m file.bounded).good) ∙ sym file.bytes_are
 
 -- a source that was written, where there is room for it
 module _ (m : Meaning) (s : Sound m) (is : within_limits (heading_of m) ≡ true) (out out' : List ℕ) (n : ℕ) (long : n ≡ length (written m)) (room : n ≤ length out) (put : out' ≡ over out 0 (written m)) where
@@ -63,4 +67,8 @@ module _ (m : Meaning) (s : Sound m) (is : within_limits (heading_of m) ≡ true
       record { bounded = written_in m s is; bytes_are = ap (take k) put ∙ take_at (written m) (drop (0 + length (written m)) out) k (sym e) }
 
   pub written_loads : WritesLoadable m (Ok n) out'
-  written_loads = record { file = front; loads = λ k starts room' same enough. file_back (take k out') starts room' (without_zeros m) (front k same) enough }
+  written_loads = record {
+    file = front;
+    loads = λ k starts room' same enough. file_back (take k out') starts room' (without_zeros m) (front k same) enough;
+    again = λ k bytes same file. (front k same).bytes_are ∙ same_bytes m bytes file;
+  }

@@ -2,7 +2,7 @@
 use Rattle.std.proofs.Common.{◌≡◌, ℕ, ◌+◌, ◌^◌, ◌<◌, ◌≤◌, true, ◌&&◌, leb, List, [], ◌∷◌, length, arith}
 use Rattle.std.proofs.lemmas.Bool.{and_from, and_parts, le-leb, leb-true}
 use Rattle.std.specs.List.{AllByRecursion}
-use Rattle.sources.specs.Meaning.{Meaning, Rising}
+use Rattle.sources.specs.Meaning.{Meaning, Rising, Sound}
 use Rattle.sources.specs.Sheets.{within_limits}
 use Rattle.sources.specs.Tables.{Fillable, heading_of}
 use Rattle.sources.specs.declared.form.Heading.{Heading}
@@ -41,7 +41,7 @@ limits h is =
     let j = between 1 h.jobs 256 q.0 in
     record { carriers_low = c.0; carriers_high = c.1; jobs_low = j.0; jobs_high = j.1; ceiling_high = leb-true h.ceiling (2 ^ 36) q.1 }
 
-from_limits : (h : Heading) → HeadingIn h → within_limits h ≡ true
+pub from_limits : (h : Heading) → HeadingIn h → within_limits h ≡ true
 from_limits h g =
     and_from (leb 1 h.carriers && leb h.carriers 128) ((leb 1 h.jobs && leb h.jobs 256) && leb h.ceiling (2 ^ 36)) (from-between 1 h.carriers 128 g.carriers_low g.carriers_high)
     (and_from (leb 1 h.jobs && leb h.jobs 256) (leb h.ceiling (2 ^ 36)) (from-between 1 h.jobs 256 g.jobs_low g.jobs_high) (le-leb h.ceiling (2 ^ 36) g.ceiling_high))
@@ -51,7 +51,7 @@ row_in : (h : Heading) (low : ℕ) (row : Row) → Rising low row → AllByRecur
 row_in h low [] r k s w = tt
 row_in h low (e ∷ es) r k s w = (record { rises = r.0; known = k.0; some = s.0; within = w.0 }, row_in h (e.0 + 1) es r.1 k.1 s.1 w.1)
 
-rows_in : (h : Heading) (rows : List Row) → AllByRecursion (Rising 0) rows → AllByRecursion (AllByRecursion (λ e. e.0 < h.jobs)) rows → AllByRecursion (AllByRecursion (λ e. 1 ≤ e.1)) rows → AllByRecursion (AllByRecursion (λ e. e.1 ≤ h.ceiling)) rows → AllByRecursion (RowIn h 0) rows
+pub rows_in : (h : Heading) (rows : List Row) → AllByRecursion (Rising 0) rows → AllByRecursion (AllByRecursion (λ e. e.0 < h.jobs)) rows → AllByRecursion (AllByRecursion (λ e. 1 ≤ e.1)) rows → AllByRecursion (AllByRecursion (λ e. e.1 ≤ h.ceiling)) rows → AllByRecursion (RowIn h 0) rows
 rows_in h [] r k s w = tt
 rows_in h (row ∷ rows) r k s w = (row_in h 0 row r.0 k.0 s.0 w.0, rows_in h rows r.1 k.1 s.1 w.1)
 
@@ -74,18 +74,25 @@ every_row : (P : Row → Type 0) (h : Heading) → ((row : Row) → RowIn h 0 ro
 every_row P h p [] r = tt
 every_row P h p (row ∷ rows) r = (p row r.0, every_row P h p rows r.1)
 
-pub fillable : (m : Meaning) → Bounded m → Fillable m
-fillable m b =
-    let h = heading_of m in
-    let low = b.headed.ceiling_high in
-    record {
-      sound = record {
-        counted = b.counted;
-        rising = every_row (Rising 0) (heading_of m) (rises_in (heading_of m) 0) m.rows b.good;
-        known = every_row (AllByRecursion (λ e. e.0 < m.jobs)) h (each_in (λ e. e.0 < m.jobs) (heading_of m) (λ low e i. i.known) 0) m.rows b.good;
-        within = every_row (AllByRecursion (λ e. e.1 ≤ m.ceiling)) h (each_in (λ e. e.1 ≤ m.ceiling) (heading_of m) (λ low e i. i.within) 0) m.rows b.good;
+-- rows within a heading's bounds are sound, as many as they are, and have no zero entries
+module _ (h : Heading) (g : HeadingIn h) (rows : List Row) (good : AllByRecursion (RowIn h 0) rows) where
+  pub sound_in : (n : ℕ) → length rows ≡ n → Sound (record { carriers = n; jobs = h.jobs; ceiling = h.ceiling; rows = rows })
+  sound_in n counted =
+      let low = g.ceiling_high in
+      record {
+        counted = counted;
+        rising = every_row (Rising 0) h (rises_in h 0) rows good;
+        known = every_row (AllByRecursion (λ e. e.0 < h.jobs)) h (each_in (λ e. e.0 < h.jobs) h (λ low e i. i.known) 0) rows good;
+        within = every_row (AllByRecursion (λ e. e.1 ≤ h.ceiling)) h (each_in (λ e. e.1 ≤ h.ceiling) h (λ low e i. i.within) 0) rows good;
         small = omega arith;
-      };
-      limited = from_limits (heading_of m) b.headed;
-      nonzero = every_row (AllByRecursion (λ e. 1 ≤ e.1)) h (each_in (λ e. 1 ≤ e.1) (heading_of m) (λ low e i. i.some) 0) m.rows b.good;
-    }
+      }
+
+  pub some_in : AllByRecursion (AllByRecursion (λ e. 1 ≤ e.1)) rows
+  some_in = every_row (AllByRecursion (λ e. 1 ≤ e.1)) h (each_in (λ e. 1 ≤ e.1) h (λ low e i. i.some) 0) rows good
+
+pub fillable : (m : Meaning) → Bounded m → Fillable m
+fillable m b = record {
+  sound = sound_in (heading_of m) b.headed m.rows b.good m.carriers b.counted;
+  limited = from_limits (heading_of m) b.headed;
+  nonzero = some_in (heading_of m) b.headed m.rows b.good;
+}

@@ -1,5 +1,5 @@
 -- What is read is a sheet file, and each sheet file is read.
-use Rattle.std.proofs.Common.{◌≡◌, ℕ, zero, suc, ◌+◌, ◌*◌, ◌^◌, ◌<◌, ◌≤◌, Bool, true, cond, ◌&&◌, eqb, ltb, leb, List, [], ◌∷◌, ◌++◌, length, get_or, drop, Ok, Err, sym, refl, ap, ◌∙◌, subst, arith, w8, Fits}
+use Rattle.std.proofs.Common.{◌≡◌, ℕ, zero, suc, ◌+◌, ◌-◌, ◌*◌, ◌^◌, ◌<◌, ◌≤◌, Bool, true, cond, ◌&&◌, eqb, ltb, leb, List, [], ◌∷◌, ◌++◌, length, get_or, drop, Ok, Err, sym, refl, ap, ◌∙◌, subst, arith, w8, Fits}
 use Rattle.std.proofs.lemmas.List.{append_assoc, append-nil, drop_all, drop_at, drop-drop, length-drop}
 use Rattle.std.proofs.lemmas.Result.{IfOk-at_ok}
 use Rattle.std.proofs.lemmas.Bool.{eq-eqb, eqb-true, le-leb, leb-true}
@@ -40,7 +40,7 @@ module _ (bs : List ℕ) (typed : (i : ℕ) → Fits w8 (get_or bs i 0)) where
   count_read : (low high at : ℕ) (x : ℕ × ℕ) → count_from bs low high at ≡ Ok x → (drop at bs ≡ encoded x.0 ++ drop x.1 bs) × (low ≤ x.0) × (x.0 ≤ high)
   count_read low high at x is = let p = passed_read (λ n. leb low n && leb n high) (fault_of CountsOutside) at x is in let b = between low x.0 high p.1 in (p.0, b.0, b.1)
 
-  heading_read : (at : ℕ) (x : Heading × ℕ) → heading_from bs at ≡ Ok x → (drop at bs ≡ heading_bytes x.0 ++ drop x.1 bs) × HeadingIn x.0
+  pub heading_read : (at : ℕ) (x : Heading × ℕ) → heading_from bs at ≡ Ok x → (drop at bs ≡ heading_bytes x.0 ++ drop x.1 bs) × HeadingIn x.0
   heading_read at x is =
       let f = followed (count_from bs 1 128 at) (λ c. and_then (count_from bs 1 256 c.1) (λ j. and_then (count_from bs 0 (2 ^ 36) j.1) (λ w. Ok (record { carriers = c.0; jobs = j.0; ceiling = w.0 }, w.1)))) x is in
       let g = followed (count_from bs 1 256 f.0.1) (λ j. and_then (count_from bs 0 (2 ^ 36) j.1) (λ w. Ok (record { carriers = f.0.0; jobs = j.0; ceiling = w.0 }, w.1))) x f.2 in
@@ -83,7 +83,7 @@ module _ (bs : List ℕ) (typed : (i : ℕ) → Fits w8 (get_or bs i 0)) where
       subst (λ (y : Row × ℕ). (drop at bs ≡ flat_map entry_bytes y.0 ++ drop y.1 bs) × RowIn h low y.0 × (length y.0 ≡ suc n)) (sym g.2)
       (chained (drop at bs) (entry_bytes f.0.0) (drop f.0.1 bs) (flat_map entry_bytes g.0.0) (drop g.0.1 bs) a.0 i.0, (a.1, i.1), ap suc i.2)
 
-  row_read : (h : Heading) (at : ℕ) (x : Row × ℕ) → row_from bs h at ≡ Ok x → (drop at bs ≡ row_bytes x.0 ++ drop x.1 bs) × RowIn h 0 x.0
+  pub row_read : (h : Heading) (at : ℕ) (x : Row × ℕ) → row_from bs h at ≡ Ok x → (drop at bs ≡ row_bytes x.0 ++ drop x.1 bs) × RowIn h 0 x.0
   unfolding row_from
   row_read h at x is =
       let f = followed (read_at bs at) (λ n. entries_from bs h n.0 0 n.1) x is in
@@ -98,16 +98,17 @@ module _ (bs : List ℕ) (typed : (i : ℕ) → Fits w8 (get_or bs i 0)) where
       subst (λ (y : List Row × ℕ). (drop at bs ≡ flat_map row_bytes y.0 ++ drop y.1 bs) × AllByRecursion (RowIn h 0) y.0 × (length y.0 ≡ 0) × (used + entries_in y.0 ≤ room)) (ok_same ([], at) x is) (refl, tt, refl, omega arith)
   rows_read h room (suc n) used at x is fits =
       let f = followed (row_in bs h room used at) (λ r. prefixed (r.0 ∷ []) (rows_from bs h room n (used + length r.0) r.1)) x is in
-      let k = followed (row_from bs h at) (λ r. room_for (fault_of TooShort) (used + length r.0) room r) f.0 f.1 in
-      let t = roomy (fault_of TooShort) (used + length k.0.0) room k.0 f.0 k.2 in
-      let fit : used + length f.0.0 ≤ room = subst (λ (y : Row × ℕ). used + length y.0 ≤ room) t.1 t.0 in
+      let k = followed (row_from bs h at) (λ r. room_for (fault_of TooShort) (length r.0) (room - used) r) f.0 f.1 in
+      let t = roomy (fault_of TooShort) (length k.0.0) (room - used) k.0 f.0 k.2 in
+      let few : length f.0.0 ≤ room - used = subst (λ (y : Row × ℕ). length y.0 ≤ room - used) t.1 t.0 in
+      let fit : used + length f.0.0 ≤ room = omega arith in
       let g = fronts (f.0.0 ∷ []) (rows_from bs h room n (used + length f.0.0) f.0.1) x f.2 in
       let a = row_read h at f.0 (k.1 ∙ ap (λ (y : Row × ℕ). Ok y) t.1) in
       let i = rows_read h room n (used + length f.0.0) f.0.1 g.0 g.1 fit in
       subst (λ (y : List Row × ℕ). (drop at bs ≡ flat_map row_bytes y.0 ++ drop y.1 bs) × AllByRecursion (RowIn h 0) y.0 × (length y.0 ≡ suc n) × (used + entries_in y.0 ≤ room)) (sym g.2)
       (chained (drop at bs) (row_bytes f.0.0) (drop f.0.1 bs) (flat_map row_bytes g.0.0) (drop g.0.1 bs) a.0 i.0, (a.1, i.1), ap suc i.2, omega (arith, i.3))
 
-  closed_read : (used at : ℕ) (x : Unit {0}) → closed_at bs used at ≡ Ok x → drop at bs ≡ encoded used
+  pub closed_read : (used at : ℕ) (x : Unit {0}) → closed_at bs used at ≡ Ok x → drop at bs ≡ encoded used
   closed_read used at x is =
       let f = followed (read_at bs at) (λ n. cond (eqb n.0 used) (cond (leb (length bs) n.1) (Ok tt) (Err (fault_at BytesFollow n.1))) (Err (fault_at TotalDiffers at))) x is in
       let t = tested (eqb f.0.0 used) (cond (leb (length bs) f.0.1) (Ok tt) (Err (fault_at BytesFollow f.0.1))) (fault_at TotalDiffers at) x f.2 in
@@ -162,7 +163,7 @@ module _ (bs : List ℕ) where
   worth_back : (h : Heading) (at n : ℕ) (rest : List ℕ) → 1 ≤ n → n ≤ h.ceiling → h.ceiling ≤ 2 ^ 36 → drop at bs ≡ encoded n ++ rest → (next : ℕ) × (worth_from bs h at ≡ Ok (n, next)) × (drop next bs ≡ rest)
   worth_back h at n rest a b c is = passed_back (λ n. leb 1 n && leb n h.ceiling) (fault_at WorthOutside at) at n rest (from-between 1 n h.ceiling a b) (omega arith) is
 
-  heading_back : (at : ℕ) (h : Heading) (rest : List ℕ) → HeadingIn h → drop at bs ≡ heading_bytes h ++ rest → (next : ℕ) × (heading_from bs at ≡ Ok (h, next)) × (drop next bs ≡ rest)
+  pub heading_back : (at : ℕ) (h : Heading) (rest : List ℕ) → HeadingIn h → drop at bs ≡ heading_bytes h ++ rest → (next : ℕ) × (heading_from bs at ≡ Ok (h, next)) × (drop next bs ≡ rest)
   heading_back at h rest good e =
       let p = count_back 1 128 at h.carriers ((encoded h.jobs ++ encoded h.ceiling) ++ rest) good.carriers_low good.carriers_high (omega arith) (e ∙ append_assoc (encoded h.carriers) (encoded h.jobs ++ encoded h.ceiling) rest) in
       let q = count_back 1 256 p.0 h.jobs (encoded h.ceiling ++ rest) good.jobs_low good.jobs_high (omega arith) (p.2 ∙ append_assoc (encoded h.jobs) (encoded h.ceiling) rest) in
@@ -196,7 +197,7 @@ module _ (bs : List ℕ) where
           q.2,
         )
 
-    row_back : (at : ℕ) (row : Row) (rest : List ℕ) → RowIn h 0 row → drop at bs ≡ row_bytes row ++ rest → (next : ℕ) × (row_from bs h at ≡ Ok (row, next)) × (drop next bs ≡ rest)
+    pub row_back : (at : ℕ) (row : Row) (rest : List ℕ) → RowIn h 0 row → drop at bs ≡ row_bytes row ++ rest → (next : ℕ) × (row_from bs h at ≡ Ok (row, next)) × (drop next bs ≡ rest)
     unfolding row_from
     row_back at row rest r e =
         let few = row_short h 0 row r (omega arith) in
@@ -213,12 +214,12 @@ module _ (bs : List ℕ) where
         let q = rows_back room (used + length row) p.0 rows rest r.1 (omega arith) p.2 in (
           q.0,
           follows (row_in bs h room used at) (λ r. prefixed (r.0 ∷ []) (rows_from bs h room (length rows) (used + length r.0) r.1)) (row, p.0) (Ok (row ∷ rows, q.0))
-              (follows (row_from bs h at) (λ r. room_for (fault_of TooShort) (used + length r.0) room r) (row, p.0) (Ok (row, p.0)) p.1 (room_there (fault_of TooShort) (used + length row) room (row, p.0) (omega arith)))
+              (follows (row_from bs h at) (λ r. room_for (fault_of TooShort) (length r.0) (room - used) r) (row, p.0) (Ok (row, p.0)) p.1 (room_there (fault_of TooShort) (length row) (room - used) (row, p.0) (omega arith)))
               (ap (prefixed (row ∷ [])) q.1),
           q.2,
         )
 
-  closed_back : (used at : ℕ) → used < 2 ^ 42 → drop at bs ≡ encoded used → closed_at bs used at ≡ Ok tt
+  pub closed_back : (used at : ℕ) → used < 2 ^ 42 → drop at bs ≡ encoded used → closed_at bs used at ≡ Ok tt
   closed_back used at small e =
       let p = number_back at used [] small (e ∙ sym (append-nil (encoded used))) in
       let l : length bs ≤ p.0 = omega (arith, sym (length-drop p.0 bs) ∙ ap length p.2) in

@@ -6,7 +6,7 @@ use Rattle.std.specs.List.{slice_range}
 use native.Mathlib.Nat.{sub-zero}
 use Rattle.refusals.specs.declared.Refusal.{Refusal}
 use Rattle.std.proofs.lemmas.List.{take_all, take_at}
-use Rattle.std.proofs.lemmas.Bool.{cond-true, cond-false, le-ltb}
+use Rattle.std.proofs.lemmas.Bool.{cases_lt, cond-true, cond-false, le-ltb, lt-ltb}
 use Rattle.refusals.specs.Faults.{fault_of}
 use Rattle.refusals.specs.declared.Fault.{Fault}
 use Rattle.refusals.specs.declared.Refusal.TheVariants.{CountsOutside, TooShort}
@@ -17,16 +17,16 @@ use Rattle.sources.specs.Tables.{entries_of, heading_of, starts_of}
 use Rattle.sources.specs.declared.form.Entry.{Entry}
 use Rattle.sources.specs.declared.form.Heading.{Heading}
 use Rattle.sheetfile.specs.Laws.{LoadsExactly}
-use Rattle.sheetfile.specs.Layout.{LongEnough, SheetFile, file_of, meaning_of}
+use Rattle.sheetfile.specs.Layout.{LongEnough, SheetFile, entries_in}
 use Rattle.sheetfile.specs.Reading.{loaded, loaded_within}
 use Rattle.sheetfile.specs.Steps.{and_then, room_for, updated}
 use Rattle.numbers.specs.Writing.{over}
 use Rattle.sheetfile.specs.Tables.{entries_after, heading_answer, sheet_in, starts_after}
 use Rattle.sheetfile.specs.Writing.{rewrite_answer, write_answer, written}
-use Rattle.sheetfile.proofs.Again.{no_zeros_in}
-use Rattle.sheetfile.proofs.Bounds.{bounded}
+use Rattle.sheetfile.proofs.Again.{same_bytes}
+use Rattle.sheetfile.proofs.Bounds.{limits}
 use Rattle.sheetfile.proofs.Exact.{file_back, file_read}
-use Rattle.sheetfile.proofs.Steps.{ok_same, room_there}
+use Rattle.sheetfile.proofs.Steps.{err_not_ok, ok_same, room_there}
 use Rattle.sheetfile.proofs.Tables.{heading_err, heading_ok, updated_err}
 
 -- the first starts, or all of them if there are fewer
@@ -52,6 +52,33 @@ module _ (h : Heading) (starts front : List ℕ) (entries : List Entry) (cut : f
 pub within_loaded : (bs : List ℕ) (starts room : ℕ) → length bs ≤ 32768 → starts ≡ 129 → room ≡ 4096 → loaded_within bs ≡ loaded bs starts room
 within_loaded bs starts room l s e =
     cond-false (ltb 32768 (length bs)) _ _ (le-ltb 32768 (length bs) l) ∙ sym (ap (λ n. loaded bs n 4096) s) ∙ sym (ap (λ n. loaded bs starts n) e)
+
+-- what is loaded is a sheet file within the limits
+pub within_file : (bs : List ℕ) → ((i : ℕ) → Fits w8 (get_or bs i 0)) → (m : Meaning) → loaded_within bs ≡ Ok m → SheetFile bs m
+within_file bs typed m is =
+    ⊎_elim (λ long. err_not_ok (fault_of TooShort) m (sym (cond-true (ltb 32768 (length bs)) (Err (fault_of TooShort)) (loaded bs 129 4096) (lt-ltb 32768 (length bs) long)) ∙ is))
+    (λ short. (file_read bs typed 129 4096 m (sym (within_loaded bs 129 4096 short refl refl) ∙ is)).0)
+    (cases_lt 32768 (length bs))
+
+-- the file of a heading that was told, where the sheet over the tables means what was loaded
+pub file_there : (bs : List ℕ) → ((i : ℕ) → Fits w8 (get_or bs i 0)) → (r : Result Heading Fault) (sheet : Heading → Result Meaning Fault) → r ≡ heading_answer (loaded_within bs) → and_then r sheet ≡ loaded_within bs →
+    IfOk r (λ h. (m : Meaning) × SheetFile bs m × (sheet h ≡ Ok m))
+file_there bs typed (Err e) sheet told filled = tt
+file_there bs typed (Ok h) sheet told filled =
+    let w = heading_ok (loaded_within bs) h told in (w.0, within_file bs typed w.0 w.1, filled ∙ w.1)
+
+-- a sheet file within the limits is loaded
+module _ (bs : List ℕ) (m : Meaning) (is : SheetFile bs m) (short : length bs ≤ 32768) (few : entries_in m.rows ≤ 4096) where
+  pub loaded_there : loaded_within bs ≡ Ok m
+  loaded_there =
+      let high = (limits (heading_of m) is.bounded.limited).carriers_high in
+      within_loaded bs 129 4096 short refl refl ∙ file_back bs 129 4096 m is (record { starts_fit = omega (arith, high); entries_fit = few })
+
+  pub heading_told : (r : Result Heading Fault) → r ≡ heading_answer (loaded_within bs) → r ≡ Ok (heading_of m)
+  heading_told r told = told ∙ ap heading_answer loaded_there
+
+  pub sheet_there : (r : Result Heading Fault) (starts' : List ℕ) (entries' : List Entry) → r ≡ Ok (heading_of m) → and_then r (λ h. sheet_in h starts' entries') ≡ loaded_within bs → sheet_in (heading_of m) starts' entries' ≡ Ok m
+  sheet_there r starts' entries' ok filled = sym (ap (λ q. and_then q (λ h. sheet_in h starts' entries')) ok) ∙ filled ∙ loaded_there
 
 -- what is known of a file that was loaded
 module _ (bs starts : List ℕ) (entries : List Entry) (typed : (i : ℕ) → Fits w8 (get_or bs i 0)) (starts' : List ℕ) (entries' : List Entry)
@@ -81,10 +108,6 @@ module _ (bs starts : List ℕ) (entries : List Entry) (typed : (i : ℕ) → Fi
       ap (λ x. sheet_of (heading_of m) x entries') starts_front ∙ ap (sheet_of (heading_of m) (starts_of m.rows)) entries_are ∙ means m rest file.bounded.sound.counted,
     )
 
-    -- what is written of it are the same bytes
-    same_bytes : written m ≡ bs
-    same_bytes = ap (λ rows. file_of (meaning_of (heading_of m) rows)) (no_zeros_in (heading_of m) m.rows (bounded m file.bounded).good) ∙ sym file.bytes_are
-
   -- a file that was loaded, by the heading that was answered
   module _ (h : Heading) (told : Ok h ≡ heading_answer (loaded bs (length starts) (length entries))) where
     pub whole : (m : Meaning) × (loaded bs (length starts) (length entries) ≡ Ok m) × (h ≡ heading_of m)
@@ -103,14 +126,14 @@ module _ (bs starts : List ℕ) (entries : List Entry) (typed : (i : ℕ) → Fi
       is_whole = ok_same m whole.0 (means ∙ fills_whole)
 
       pub same_out : written m ≡ bs
-      same_out = ap written is_whole ∙ same_bytes whole.0 whole.1
+      same_out = ap written is_whole ∙ same_bytes whole.0 bs (file whole.0 whole.1)
 
       module _ (room : ℕ) (fits : length bs ≤ room) where
         pub written_again : write_answer m room ≡ Ok (length bs)
         written_again =
             ap (λ x. write_answer x room) is_whole
             ∙ cond-true (within_limits (heading_of whole.0)) (room_for TooShort (length (written whole.0)) room (length (written whole.0))) (Err CountsOutside) (file whole.0 whole.1).bounded.limited
-            ∙ ap (λ b. room_for TooShort (length b) room (length b)) (same_bytes whole.0 whole.1)
+            ∙ ap (λ b. room_for TooShort (length b) room (length b)) (same_bytes whole.0 bs (file whole.0 whole.1))
             ∙ room_there TooShort (length bs) room (length bs) fits
 
         pub rewrite_ok : (n : ℕ) → Ok n ≡ write_answer m room → Ok n ≡ rewrite_answer bs (length starts) (length entries) room

@@ -7,9 +7,8 @@ use Rattle.sources.specs.declared.form.Heading.{Heading}
 use Rattle.sheetfile.specs.Layout.{Row}
 use Rattle.sheetfile.specs.Readers.{value_of}
 use Rattle.sheetfile.specs.Reading.{entries_from, entry_from, row_from}
-use Rattle.sheetfile.specs.States.{next_row}
+use Rattle.sheetfile.specs.States.{Stand, next_row}
 use Rattle.sheetfile.specs.Steps.{prefixed}
-use Rattle.sheetfile.specs.declared.loader.Headed.{Headed}
 use Rattle.sheetfile.proofs.Steps.{err_not_ok, followed, ok_same}
 use Rattle.sheetfile.proofs.Tables.{row_accepted}
 
@@ -36,7 +35,7 @@ there (Ok x) e = (x, refl)
 there (Err f) e = absurd (false≢true e)
 
 -- The row, and how many entries it announces.
-pub known : (l : Headed) (starts room : ℕ) → is_ok (next_row l starts room) ≡ true → (x : Row × ℕ) × (next_row l starts room ≡ Ok x) × (value_of (read_at l.reader.bytes.now l.reader.at) ≡ Ok (length x.0))
+pub known : (l : Stand) (starts room : ℕ) → is_ok (next_row l starts room) ≡ true → (x : Row × ℕ) × (next_row l starts room ≡ Ok x) × (value_of (read_at l.reader.bytes.now l.reader.at) ≡ Ok (length x.0))
 known l starts room ok =
     let t = there (next_row l starts room) ok in
     (t.0, t.1, row_announced l.reader.bytes.now l.heading l.reader.at t.0 (row_accepted l starts room t.0 t.1).0)

@@ -7,6 +7,8 @@ pub mod Sheets
 pub mod Overs
 pub mod Readers
 pub mod Loading
+pub mod Begun
+pub mod Exactly
 pub mod Writing
 pub mod Again
 pub mod Filling

@@ -10,12 +10,11 @@ use Rattle.sources.specs.declared.form.Entry.{Entry}
 use Rattle.sources.specs.declared.form.Heading.{Heading}
 use Rattle.sheetfile.specs.Layout.{Row, entries_in, meaning_of}
 use Rattle.sheetfile.specs.Reading.{closed_at, heading_from, heading_in, loaded, row_in, rows_from}
-use Rattle.sheetfile.specs.States.{after_row, closing, entries_after_row, headed_by, next_row, starts_after_row}
+use Rattle.sheetfile.specs.States.{Stand, after_row, closing, entries_after_row, headed_by, next_row, starts_after_row}
 use Rattle.sheetfile.specs.Steps.{and_then, prefixed, room_for, updated}
 use Rattle.numbers.specs.Writing.{over}
 use Rattle.sheetfile.specs.Tables.{heading_answer}
 use Rattle.sheetfile.specs.declared.loader.Bare.{Bare}
-use Rattle.sheetfile.specs.declared.loader.Headed.{Headed}
 use Rattle.sheetfile.proofs.Overs.{over_none, over-over, over-set}
 use Rattle.sheetfile.proofs.Sheets.{load_parts, row_fits, rows_none}
 use Rattle.sheetfile.proofs.Steps.{followed, follows, fronts, ok_same, room_there, roomy, tests}
@@ -40,11 +39,12 @@ rows_first bs h room (suc n) used at left end is some =
     )
 
 -- What is left of a load that succeeds, after i rows of n, with the loader l.
-pub record Underway (bs starts₀ : List ℕ) (entries₀ : List Entry) (n i : ℕ) (l : Headed) (starts : List ℕ) (entries : List Entry) : Type 0 where
+pub record Underway (bs starts₀ : List ℕ) (entries₀ : List Entry) (n i : ℕ) (l : Stand) (starts : List ℕ) (entries : List Entry) : Type 0 where
   pub all : List Row
   pub left : List Row
   pub end : ℕ
   pub same : l.reader.bytes.now ≡ bs
+  pub fits : l.used ≤ length entries₀
   pub last : n ≡ l.heading.carriers
   pub count : l.rows ≡ i
   pub whole : loaded bs (length starts₀) (length entries₀) ≡ Ok (meaning_of l.heading all)
@@ -54,7 +54,7 @@ pub record Underway (bs starts₀ : List ℕ) (entries₀ : List Entry) (n i : �
   pub starts_left : over starts (i + 1) (ends_of l.used left) ≡ over starts₀ 1 (ends_of 0 all)
   pub entries_left : over entries l.used (entries_of left) ≡ over entries₀ 0 (entries_of all)
 
-module _ (bs starts₀ : List ℕ) (entries₀ : List Entry) (n i : ℕ) (l : Headed) (starts : List ℕ) (entries : List Entry)
+module _ (bs starts₀ : List ℕ) (entries₀ : List Entry) (n i : ℕ) (l : Stand) (starts : List ℕ) (entries : List Entry)
     (g : Underway bs starts₀ entries₀ n i l starts entries)
     (ls : length starts ≡ length starts₀) (le : length entries ≡ length entries₀) where
   module _ (inside : i < n) where
@@ -79,13 +79,15 @@ module _ (bs starts₀ : List ℕ) (entries₀ : List Entry) (n i : ℕ) (l : He
         let c = g.count in let e = g.last in let o = g.long in
         let is = first.3 in
         let used = l.used in
-        let fit = (row_fits bs l.heading (length entries₀) l.used l.reader.at (first.0, first.1) first.4).1 in
+        let few = (row_fits bs l.heading (length entries₀) l.used l.reader.at (first.0, first.1) first.4).1 in
+        let fit : used + length first.0 ≤ length entries₀ = omega (arith, few, g.fits) in
         let one : l.heading.carriers - (i + 1) ≡ l.heading.carriers - i - 1 = omega arith in
         record {
           all = g.all;
           left = first.2;
           end = g.end;
           same = g.same;
+          fits = fit;
           last = g.last;
           count = ap (λ m. m + 1) c;
           whole = g.whole;
@@ -100,7 +102,7 @@ module _ (bs starts₀ : List ℕ) (entries₀ : List Entry) (n i : ℕ) (l : He
         }
 
     -- the same, by what a call that reads a row ensures
-    pub underway_next : (l' : Headed) (starts' : List ℕ) (entries' : List Entry)
+    pub underway_next : (l' : Stand) (starts' : List ℕ) (entries' : List Entry)
         → l' ≡ updated (next_row l (length starts) (length entries)) l (after_row l)
         → starts' ≡ updated (next_row l (length starts) (length entries)) starts (starts_after_row l starts)
         → entries' ≡ updated (next_row l (length starts) (length entries)) entries (entries_after_row l entries)
@@ -149,7 +151,7 @@ module _ (bs starts : List ℕ) (entries : List Entry) (h : Heading) (b : Bare) 
     pub start_put : starts₀ ≡ set starts 0 0
     start_put = put ∙ sym (updated_ok (heading_in b.bytes.now (length starts)) (heading_of file.0, parts.0) starts (λ _. set starts 0 0) heading_there)
 
-    pub underway_first : (l : Headed) → Ok l ≡ headed_by b (heading_in b.bytes.now (length starts)) → Underway bs starts₀ entries h.carriers 0 l starts₀ entries
+    pub underway_first : (l : Stand) → Ok l ≡ headed_by b (heading_in b.bytes.now (length starts)) → Underway bs starts₀ entries h.carriers 0 l starts₀ entries
     underway_first l is =
         let k = headed_ok b (heading_in b.bytes.now (length starts)) l is in
         let same : k.0 ≡ (heading_of file.0, parts.0) = ok_same k.0 (heading_of file.0, parts.0) (sym k.1 ∙ heading_there) in
@@ -160,12 +162,13 @@ module _ (bs starts : List ℕ) (entries : List Entry) (h : Heading) (b : Bare) 
         let len : length starts₀ ≡ length starts = ap length start_put ∙ length-set starts 0 0 in
         let zero-less : file.0.carriers - 0 ≡ file.0.carriers = omega arith in
         let zero_more : 0 + entries_in file.0.rows ≡ entries_in file.0.rows = omega arith in
-        subst (λ (x : Headed). Underway bs starts₀ entries h.carriers 0 x starts₀ entries) (sym there)
+        subst (λ (x : Stand). Underway bs starts₀ entries h.carriers 0 x starts₀ entries) (sym there)
         record {
           all = file.0.rows;
           left = file.0.rows;
           end = parts.1;
           same = whose;
+          fits = omega arith;
           last = ap (λ (x : Heading). x.carriers) file.2;
           count = refl;
           whole = ap (λ n. loaded bs n (length entries)) len ∙ file.1;

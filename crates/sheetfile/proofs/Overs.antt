@@ -1,5 +1,5 @@
 -- Writes to parts of a table, one after another.
-use Rattle.std.proofs.Common.{◌≡◌, ℕ, suc, ◌+◌, ◌<◌, ◌≤◌, List, [], ◌∷◌, ◌++◌, length, take, drop, set, ap, ◌∙◌, arith}
+use Rattle.std.proofs.Common.{◌≡◌, ℕ, suc, ◌+◌, ◌-◌, ◌<◌, ◌≤◌, min, List, [], ◌∷◌, ◌++◌, length, take, drop, set, sym, ap, ◌∙◌, arith}
 use Rattle.std.proofs.lemmas.List.{append_assoc, drop-set-lt, take-append-drop, take_more_set}
 use Rattle.numbers.specs.Writing.{over}
 use Rattle.outputs.proofs.Puts.{splice_then}
@@ -7,6 +7,11 @@ use Rattle.outputs.proofs.Puts.{splice_then}
 module _ {A : Type 0} (xs : List A) where
   pub over_none : (n : ℕ) → over xs n [] ≡ xs
   over_none n = let e : n + 0 ≡ n = omega arith in ap (λ m. take n xs ++ drop m xs) e ∙ take-append-drop n xs
+
+  -- nothing is written where the table has ended
+  pub over_end : (zs : List A) (a n : ℕ) → n ≡ min a (length xs) → length zs ≤ length xs - a → over xs n zs ≡ over xs a zs
+  over_end [] a n is fits = over_none n ∙ sym (over_none a)
+  over_end (z ∷ zs) a n is fits = ap (λ k. over xs k (z ∷ zs)) (omega (arith, is, fits))
 
   pub over-set : (i : ℕ) (v : A) (zs : List A) → i < length xs → over (set xs i v) (i + 1) zs ≡ over xs i (v ∷ zs)
   over-set i v zs inside =

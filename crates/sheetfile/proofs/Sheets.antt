@@ -18,11 +18,11 @@ entries_push [] row = omega arith
 entries_push (r ∷ rows) row = let i = entries_push rows row in omega arith
 
 module _ (bs : List ℕ) (h : Heading) (room : ℕ) where
-  pub row_fits : (used at : ℕ) (x : Row × ℕ) → row_in bs h room used at ≡ Ok x → (row_from bs h at ≡ Ok x) × (used + length x.0 ≤ room)
+  pub row_fits : (used at : ℕ) (x : Row × ℕ) → row_in bs h room used at ≡ Ok x → (row_from bs h at ≡ Ok x) × (length x.0 ≤ room - used)
   row_fits used at x is =
-      let g = followed (row_from bs h at) (λ r. room_for (fault_of TooShort) (used + length r.0) room r) x is in
-      let q = roomy (fault_of TooShort) (used + length g.0.0) room g.0 x g.2 in
-      (g.1 ∙ ap (λ (y : Row × ℕ). Ok y) q.1, subst (λ (y : Row × ℕ). used + length y.0 ≤ room) q.1 q.0)
+      let g = followed (row_from bs h at) (λ r. room_for (fault_of TooShort) (length r.0) (room - used) r) x is in
+      let q = roomy (fault_of TooShort) (length g.0.0) (room - used) g.0 x g.2 in
+      (g.1 ∙ ap (λ (y : Row × ℕ). Ok y) q.1, subst (λ (y : Row × ℕ). length y.0 ≤ room - used) q.1 q.0)
 
   pub rows_more : (n used at : ℕ) (row : Row) (next : ℕ) → 0 < n → row_in bs h room used at ≡ Ok (row, next) → rows_from bs h room n used at ≡ prefixed (row ∷ []) (rows_from bs h room (n - 1) (used + length row) next)
   unfolding rows_from

@@ -95,11 +95,11 @@ row_further bs h at x is =
 
 module _ (bs : List ℕ) (room more : ℕ) (enough : length bs ≤ 2 * room) (also : length bs ≤ 2 * more) where
   roomy_both : (h : Heading) (used at : ℕ) → 2 * used ≤ at → (x : Row × ℕ) → row_from bs h at ≡ Ok x →
-      ◌≡◌ {A = Result (Row × ℕ) Fault} (room_for (fault_of TooShort) (used + length x.0) room x) (Ok x) × ◌≡◌ {A = Result (Row × ℕ) Fault} (room_for (fault_of TooShort) (used + length x.0) more x) (Ok x)
+      ◌≡◌ {A = Result (Row × ℕ) Fault} (room_for (fault_of TooShort) (length x.0) (room - used) x) (Ok x) × ◌≡◌ {A = Result (Row × ℕ) Fault} (room_for (fault_of TooShort) (length x.0) (more - used) x) (Ok x)
   roomy_both h used at low x is =
       let r = row_further bs h at x is in (
-        cond-true {A = Result (Row × ℕ) Fault} (leb (used + length x.0) room) _ _ (le-leb (used + length x.0) room (omega (arith, r.0, r.1))),
-        cond-true {A = Result (Row × ℕ) Fault} (leb (used + length x.0) more) _ _ (le-leb (used + length x.0) more (omega (arith, r.0, r.1))),
+        cond-true {A = Result (Row × ℕ) Fault} (leb (length x.0) (room - used)) _ _ (le-leb (length x.0) (room - used) (omega (arith, r.0, r.1))),
+        cond-true {A = Result (Row × ℕ) Fault} (leb (length x.0) (more - used)) _ _ (le-leb (length x.0) (more - used) (omega (arith, r.0, r.1))),
       )
 
   same_rows : (h : Heading) (n used at : ℕ) → 2 * used ≤ at → rows_from bs h room n used at ≡ rows_from bs h more n used at
@@ -108,8 +108,8 @@ module _ (bs : List ℕ) (room more : ℕ) (enough : length bs ≤ 2 * room) (al
   same_rows h (suc n) used at low = go (λ u a l. same_rows h n u a l) (row_from bs h at) refl
     where
       go : ((u a : ℕ) → 2 * u ≤ a → rows_from bs h room n u a ≡ rows_from bs h more n u a) → (r : Result (Row × ℕ) Fault) → row_from bs h at ≡ r →
-          and_then (and_then r (λ r. room_for (fault_of TooShort) (used + length r.0) room r)) (λ r. prefixed (r.0 ∷ []) (rows_from bs h room n (used + length r.0) r.1))
-          ≡ and_then (and_then r (λ r. room_for (fault_of TooShort) (used + length r.0) more r)) (λ r. prefixed (r.0 ∷ []) (rows_from bs h more n (used + length r.0) r.1))
+          and_then (and_then r (λ r. room_for (fault_of TooShort) (length r.0) (room - used) r)) (λ r. prefixed (r.0 ∷ []) (rows_from bs h room n (used + length r.0) r.1))
+          ≡ and_then (and_then r (λ r. room_for (fault_of TooShort) (length r.0) (more - used) r)) (λ r. prefixed (r.0 ∷ []) (rows_from bs h more n (used + length r.0) r.1))
       go next (Err e) is = refl
       go next (Ok x) is =
           let b = roomy_both h used at low x is in

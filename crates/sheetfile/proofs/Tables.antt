@@ -2,7 +2,7 @@
 use Rattle.std.proofs.Common.{◌≡◌, ℕ, ◌+◌, ◌-◌, ◌<◌, ◌≤◌, ltb, List, ◌++◌, map, length, take, drop, Ok, Err, Result, sym, refl, ap, ◌∙◌, subst, arith}
 use borrow.Rule.Slice.PartMut.{put_mid}
 use Rattle.std.proofs.lemmas.List.{drop-drop, length-map, take_all}
-use Rattle.std.proofs.lemmas.Bool.{ltb-true}
+use Rattle.std.proofs.lemmas.Bool.{lt-ltb, ltb-true}
 use Rattle.refusals.specs.Faults.{fault_of}
 use Rattle.refusals.specs.declared.Fault.{Fault}
 use Rattle.refusals.specs.declared.Refusal.TheVariants.{NoRowLeft, TooShort}
@@ -13,7 +13,7 @@ use Rattle.sources.specs.declared.form.Heading.{Heading}
 use Rattle.sheetfile.specs.Layout.{Row}
 use Rattle.sheetfile.specs.Readers.{value_of}
 use Rattle.sheetfile.specs.Reading.{row_from, row_in}
-use Rattle.sheetfile.specs.States.{closed_by, headed_by, next_row}
+use Rattle.sheetfile.specs.States.{Stand, closed_by, headed_by, next_row}
 use Rattle.sheetfile.specs.Steps.{and_then, room_for, updated}
 use Rattle.numbers.specs.Writing.{over}
 use Rattle.sheetfile.specs.Tables.{BeginsWith, HoldsRow, heading_answer, row_count}
@@ -21,7 +21,7 @@ use Rattle.sheetfile.specs.declared.loader.Bare.{Bare}
 use Rattle.sheetfile.specs.declared.loader.Closed.{Closed}
 use Rattle.sheetfile.specs.declared.loader.Headed.{Headed}
 use Rattle.sheetfile.specs.declared.loader.Refused.{Refused}
-use Rattle.sheetfile.proofs.Steps.{err_not_ok, followed, ok_same, roomy, tested}
+use Rattle.sheetfile.proofs.Steps.{err_not_ok, followed, follows, ok_same, room_there, roomy, tested, tests}
 
 -- a row whose count alone is told
 pub row_ok : (r : Result (Row × ℕ) Fault) (n at : ℕ) → row_count r ≡ Ok (n, at) → (row : Row) × (r ≡ Ok (row, at)) × (length row ≡ n)
@@ -38,6 +38,10 @@ pub counted : (r : Result (Row × ℕ) Fault) (n : ℕ) → Ok n ≡ value_of (r
 counted (Err d) n is = err_not_ok d n (sym is)
 counted (Ok (row, end)) n is = (row, end, refl, sym (ok_same n (length row) is))
 
+pub not_counted : (r : Result (Row × ℕ) Fault) (e : Fault) → Err e ≡ value_of (row_count r) → r ≡ Err e
+not_counted (Err d) e is = let same : d ≡ e = cc in ap Err same
+not_counted (Ok (row, end)) e is = err_not_ok e (length row) is
+
 module _ {A : Type 0} (r : Result A Fault) where
   pub updated_err : {X : Type 0} (e : Fault) (x : X) (f : A → X) → r ≡ Err e → x ≡ updated r x f
   updated_err e x f is = sym (ap (λ q. updated q x f) is)
@@ -46,16 +50,24 @@ module _ {A : Type 0} (r : Result A Fault) where
   updated_ok a x f is = sym (ap (λ q. updated q x f) is)
 
 -- what an accepted row keeps to
-pub row_accepted : (l : Headed) (starts room : ℕ) (x : Row × ℕ) → next_row l starts room ≡ Ok x
-    → (row_from l.reader.bytes.now l.heading l.reader.at ≡ Ok x) × (l.used + length x.0 ≤ room) × (l.rows + 2 ≤ starts) × (l.rows < l.heading.carriers)
+pub row_accepted : (l : Stand) (starts room : ℕ) (x : Row × ℕ) → next_row l starts room ≡ Ok x
+    → (row_from l.reader.bytes.now l.heading l.reader.at ≡ Ok x) × (length x.0 ≤ room - l.used) × (l.rows + 2 ≤ starts) × (l.rows < l.heading.carriers)
 row_accepted l starts room x is =
     let t = tested (ltb l.rows l.heading.carriers) (and_then (row_in l.reader.bytes.now l.heading room l.used l.reader.at) (λ r. room_for (fault_of TooShort) (l.rows + 2) starts r)) (fault_of NoRowLeft) x is in
     let f = followed (row_in l.reader.bytes.now l.heading room l.used l.reader.at) (λ r. room_for (fault_of TooShort) (l.rows + 2) starts r) x t.1 in
-    let g = followed (row_from l.reader.bytes.now l.heading l.reader.at) (λ r. room_for (fault_of TooShort) (l.used + length r.0) room r) f.0 f.1 in
+    let g = followed (row_from l.reader.bytes.now l.heading l.reader.at) (λ r. room_for (fault_of TooShort) (length r.0) (room - l.used) r) f.0 f.1 in
     let p = roomy (fault_of TooShort) (l.rows + 2) starts f.0 x f.2 in
-    let q = roomy (fault_of TooShort) (l.used + length g.0.0) room g.0 f.0 g.2 in
+    let q = roomy (fault_of TooShort) (length g.0.0) (room - l.used) g.0 f.0 g.2 in
     let same : g.0 ≡ x = q.1 ∙ p.1 in
-    (g.1 ∙ ap (λ (y : Row × ℕ). Ok y) same, subst (λ (y : Row × ℕ). l.used + length y.0 ≤ room) same q.0, p.0, ltb-true l.rows l.heading.carriers t.0)
+    (g.1 ∙ ap (λ (y : Row × ℕ). Ok y) same, subst (λ (y : Row × ℕ). length y.0 ≤ room - l.used) same q.0, p.0, ltb-true l.rows l.heading.carriers t.0)
+
+-- a row that is there is accepted where there is room
+pub row_accepts : (l : Stand) (starts room : ℕ) (x : Row × ℕ) → row_from l.reader.bytes.now l.heading l.reader.at ≡ Ok x → l.rows < l.heading.carriers → l.rows + 2 ≤ starts → length x.0 ≤ room - l.used → next_row l starts room ≡ Ok x
+row_accepts l starts room x is inside enough few =
+    tests (ltb l.rows l.heading.carriers) (and_then (row_in l.reader.bytes.now l.heading room l.used l.reader.at) (λ r. room_for (fault_of TooShort) (l.rows + 2) starts r)) (Err (fault_of NoRowLeft)) (lt-ltb l.rows l.heading.carriers inside)
+    ∙ follows (row_in l.reader.bytes.now l.heading room l.used l.reader.at) (λ r. room_for (fault_of TooShort) (l.rows + 2) starts r) x (Ok x)
+    (follows (row_from l.reader.bytes.now l.heading l.reader.at) (λ r. room_for (fault_of TooShort) (length r.0) (room - l.used) r) x (Ok x) is (room_there (fault_of TooShort) (length x.0) (room - l.used) x few))
+    (room_there (fault_of TooShort) (l.rows + 2) starts x enough)
 
 -- a table of a row's length that holds the row
 pub holds_whole : (table : List Entry) (row : Row) (at : ℕ) (r : Result (Row × ℕ) Fault) → r ≡ Ok (row, at) → length table ≡ length row → HoldsRow r table → table ≡ map entry_of row
@@ -79,7 +91,7 @@ heading_ok (Err e) h is = err_not_ok e h (sym is)
 heading_ok (Ok m) h is = (m, refl, ok_same h (heading_of m) is)
 
 -- a loader with a heading
-pub headed_ok : (b : Bare) (r : Result (Heading × ℕ) Fault) (l : Headed) → Ok l ≡ headed_by b r → (x : Heading × ℕ) × (r ≡ Ok x) × (l ≡ record { reader = record { bytes = b.bytes; at = x.1 }; heading = x.0; rows = 0; used = 0 })
+pub headed_ok : (b : Bare) (r : Result (Heading × ℕ) Fault) (l : Stand) → Ok l ≡ headed_by b r → (x : Heading × ℕ) × (r ≡ Ok x) × (l ≡ record { reader = record { bytes = b.bytes; at = x.1 }; heading = x.0; rows = 0; used = 0 })
 headed_ok b (Err e) l is = absurd (let z : ◌≡◌ {A = ℕ} 0 1 = cc in omega arith)
 headed_ok b (Ok (h, at)) l is = ((h, at), refl, cc)
 

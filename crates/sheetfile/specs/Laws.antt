@@ -20,7 +20,9 @@ pub record LoadsExactly (bytes starts : List ℕ) (entries : List Entry) (r : Re
   pub only : (h : Heading) → r ≡ Ok h → (m : Meaning) × SheetFile bytes m × LongEnough m (length starts) (length entries) × (h ≡ heading_of m) × (sheet_in h starts' entries' ≡ Ok m)
   pub refused : (e : Fault) → r ≡ Err e → (starts' ≡ starts) × (entries' ≡ entries)
 
--- What was written of a source is the sheet file of that source without its zero entries, so that a load accepts it.
+-- What was written of a source is the sheet file of that source without its zero entries, so that a load accepts it. Of a
+-- source that means a sheet file, that very file was written.
 pub record WritesLoadable (m : Meaning) (r : Result ℕ Refusal) (out : List ℕ) : Type 0 where
   pub file : (n : ℕ) → r ≡ Ok n → SheetFile (take n out) (without_zeros m)
   pub loads : (n starts room : ℕ) → r ≡ Ok n → LongEnough (without_zeros m) starts room → loaded (take n out) starts room ≡ Ok (without_zeros m)
+  pub again : (n : ℕ) (bytes : List ℕ) → r ≡ Ok n → SheetFile bytes m → take n out ≡ bytes

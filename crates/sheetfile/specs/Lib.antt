@@ -1,5 +1,6 @@
 pub mod Steps
 pub mod Layout
+pub mod Begun
 pub mod Reading
 pub mod Readers
 pub mod Tables

@@ -1,6 +1,6 @@
 -- What comes of reading any bytes: a heading and rows, or the first refusal with its place.
 -- Each part is read from a place on, and gives what is read and the place behind it.
-use Rattle.std.specs.Prelude.{ℕ, zero, suc, ◌+◌, ◌^◌, Bool, true, cond, ◌&&◌, List, [], ◌∷◌, length, Ok, Err, Result, ◌==◌, nat_le, nat_lt}
+use Rattle.std.specs.Prelude.{ℕ, zero, suc, ◌+◌, ◌-◌, ◌^◌, Bool, true, cond, ◌&&◌, List, [], ◌∷◌, length, Ok, Err, Result, ◌==◌, nat_le, nat_lt}
 use Rattle.std.specs.declared.ops.Bound.{Bound}
 use Rattle.std.specs.declared.ops.Bound.TheVariants.{Included, Excluded, Unbounded}
 use Rattle.refusals.specs.Faults.{fault_at, fault_of}
@@ -73,9 +73,9 @@ heading_at bs starts at = and_then (heading_from bs at) (λ h. room_for (fault_o
 abbrev pub heading_in : List ℕ → ℕ → Result (Heading × ℕ) Fault
 heading_in bs starts = heading_at bs starts 0
 
--- A row after so many entries, for a table of so many in all.
+-- A row after so many entries, for a table of so many in all. A row without entries needs no room there.
 abbrev pub row_in : List ℕ → Heading → ℕ → ℕ → ℕ → Result (Row × ℕ) Fault
-row_in bs h room used at = and_then (row_from bs h at) (λ r. room_for (fault_of TooShort) (used + length r.0) room r)
+row_in bs h room used at = and_then (row_from bs h at) (λ r. room_for (fault_of TooShort) (length r.0) (room - used) r)
 
 -- So many rows after so many entries.
 unfoldable pub rows_from : List ℕ → Heading → ℕ → ℕ → ℕ → ℕ → Result (List Row × ℕ) Fault

@@ -1,10 +1,14 @@
 // A loader that passes through three states, each a type of its own: bare, headed, closed. The tables are lent to each call.
-ghost use Rattle.std.specs.Prelude.{◌≡◌, true, is_ok, length, slice_set, Ok};
+ghost use Rattle.std.specs.Prelude.{◌≡◌, ℕ, ◌+◌, ◌<◌, ◌≤◌, true, is_ok, IsOkAnd, length, slice_index, slice_set, Ok};
+ghost use Rattle.std.specs.Result.{result_map_both};
+ghost use Rattle.sheetfile.specs.Begun.{Begun};
+ghost use Rattle.sheetfile.specs.Layout.{SheetFile};
 ghost use Rattle.sheetfile.specs.Readers.{value_of};
 ghost use Rattle.sheetfile.specs.Reading.{heading_in};
-ghost use Rattle.sheetfile.specs.States.{after_row, closed_by, closing, entries_after_row, headed_by, next_row, starts_after_row};
 ghost use Rattle.sheetfile.specs.Steps.{updated, without_value};
 ghost use Rattle.sheetfile.specs.Tables.{row_count};
+ghost use Rattle.sources.specs.Meaning.{Meaning};
+ghost use Rattle.sources.specs.Tables.{heading_of};
 
 use crate::parts::Reader;
 use refusals::{Fault, Refusal};
@@ -30,6 +34,7 @@ impl<L: Drop> From<Refused<L>> for Fault {
 #[derive(Drop)]
 pub struct Bare<'a> {
     bytes: &'a [u8],
+    ghost small: { (i : ℕ) → slice_index bytes.now i < 256 },
 }
 
 // The heading is read, and so many rows with so many entries; the reader stands behind them.
@@ -39,6 +44,7 @@ pub struct Headed<'a> {
     heading: Heading,
     rows: usize,
     used: usize,
+    ghost begun: { ∥ Begun reader.bytes.now reader.at heading rows used ∥₁ },
 }
 
 // The whole file is read.
@@ -48,6 +54,8 @@ pub struct Closed {
 }
 
 impl<'a> Bare<'a> {
+    ghost use Rattle.sheetfile.specs.States.{headed_by, stand};
+
     // A loader of some bytes.
     pub fn new(bytes: &'a [u8]) -> Bare<'a>
         ensures { result.bytes.now ≡ bytes.now }
@@ -57,8 +65,9 @@ impl<'a> Bare<'a> {
 
     // Reads the heading, and writes start 0.
     pub fn read_heading(self, starts: &mut [usize]) -> Result<Headed<'a>, Refused<Bare<'a>>>
-        ensures answer { result ≡ headed_by self.entry (heading_in self.entry.bytes.now (length starts.old)) }
+        ensures answer { result_map_both stand (λ e. e) result ≡ headed_by self.entry (heading_in self.entry.bytes.now (length starts.old)) }
         ensures starts { starts.new ≡ updated (heading_in self.entry.bytes.now (length starts.old)) starts.old (λ _. slice_set starts.old 0 0) }
+        ensures every { (m : Meaning) → SheetFile self.entry.bytes.now m → m.carriers + 1 ≤ length starts.old → IsOkAnd result (λ l. l.heading ≡ heading_of m) }
     {
         let mut reader = Reader::new(self.bytes);
         // By match: the closure of a map_err moves the loader, and would need a contract of its own.
@@ -81,9 +90,11 @@ impl<'a> Bare<'a> {
 }
 
 impl<'a> Headed<'a> {
+    ghost use Rattle.sheetfile.specs.States.{ClosesExactly, ReadsInOrder, after_row, closed_by, closing, entries_after_row, next_row, stand, starts_after_row};
+
     // How many entries the next row has, if tables of such lengths can take it.
     fn next_row(&self, starts: usize, room: usize) -> Result<usize, Fault>
-        ensures { result ≡ value_of (row_count (next_row self.now starts room)) }
+        ensures { result ≡ value_of (row_count (next_row (stand self.now) starts room)) }
     {
         if self.rows >= self.heading.carriers {
             return Err(Fault::bare(Refusal::NoRowLeft));
@@ -98,17 +109,20 @@ impl<'a> Headed<'a> {
 
     // Reads the next row, and writes its entries and the place where it ends, which is the next start.
     pub fn read_row(&mut self, starts: &mut [usize], entries: &mut [Entry]) -> Result<(), Fault>
-        ensures answer { result ≡ without_value (next_row self.old (length starts.old) (length entries.old)) }
-        ensures loader { self.new ≡ updated (next_row self.old (length starts.old) (length entries.old)) self.old (after_row self.old) }
-        ensures starts { starts.new ≡ updated (next_row self.old (length starts.old) (length entries.old)) starts.old (starts_after_row self.old starts.old) }
-        ensures entries { entries.new ≡ updated (next_row self.old (length starts.old) (length entries.old)) entries.old (entries_after_row self.old entries.old) }
+        ensures answer { result ≡ without_value (next_row (stand self.old) (length starts.old) (length entries.old)) }
+        ensures loader { stand self.new ≡ updated (next_row (stand self.old) (length starts.old) (length entries.old)) (stand self.old) (after_row (stand self.old)) }
+        ensures starts { starts.new ≡ updated (next_row (stand self.old) (length starts.old) (length entries.old)) starts.old (starts_after_row (stand self.old) starts.old) }
+        ensures entries { entries.new ≡ updated (next_row (stand self.old) (length starts.old) (length entries.old)) entries.old (entries_after_row (stand self.old) entries.old) }
+        ensures file { (m : Meaning) → SheetFile self.old.reader.bytes.now m → ReadsInOrder m (stand self.old) starts.old entries.old result starts.new entries.new }
     {
         let count = self.next_row(starts.len(), entries.len())?;
-        let end = self.used + count;
-        self.reader.row(self.heading, &mut entries[self.used..end])?;
-        starts[self.rows + 1] = end;
+        // A row without entries needs no place, even in a table that ends before the rows that were read.
+        let place = self.used.min(entries.len());
+        self.reader
+            .row(self.heading, &mut entries[place..place + count])?;
+        self.used += count;
         self.rows += 1;
-        self.used = end;
+        starts[self.rows] = self.used;
         Ok(())
     }
 
@@ -118,23 +132,26 @@ impl<'a> Headed<'a> {
         starts: &mut [usize],
         entries: &mut [Entry],
     ) -> Result<(), Fault>
-        requires { is_ok (next_row self.old (length starts.old) (length entries.old)) ≡ true }
+        requires { is_ok (next_row (stand self.old) (length starts.old) (length entries.old)) ≡ true }
         ensures answer { result ≡ Ok tt }
-        ensures loader { self.new ≡ updated (next_row self.old (length starts.old) (length entries.old)) self.old (after_row self.old) }
-        ensures starts { starts.new ≡ updated (next_row self.old (length starts.old) (length entries.old)) starts.old (starts_after_row self.old starts.old) }
-        ensures entries { entries.new ≡ updated (next_row self.old (length starts.old) (length entries.old)) entries.old (entries_after_row self.old entries.old) }
+        ensures loader { stand self.new ≡ updated (next_row (stand self.old) (length starts.old) (length entries.old)) (stand self.old) (after_row (stand self.old)) }
+        ensures starts { starts.new ≡ updated (next_row (stand self.old) (length starts.old) (length entries.old)) starts.old (starts_after_row (stand self.old) starts.old) }
+        ensures entries { entries.new ≡ updated (next_row (stand self.old) (length starts.old) (length entries.old)) entries.old (entries_after_row (stand self.old) entries.old) }
     {
-        let end = self.used + self.reader.announced()?;
-        self.reader.row(self.heading, &mut entries[self.used..end])?;
-        starts[self.rows + 1] = end;
+        let count = self.reader.announced()?;
+        let place = self.used.min(entries.len());
+        self.reader
+            .row(self.heading, &mut entries[place..place + count])?;
+        self.used += count;
         self.rows += 1;
-        self.used = end;
+        starts[self.rows] = self.used;
         Ok(())
     }
 
     // Ends the reading, if every row is read and the total closes the file.
     pub fn close(self) -> Result<Closed, Refused<Headed<'a>>>
-        ensures { result ≡ closed_by self.entry (closing self.entry) }
+        ensures answer { result ≡ closed_by self.entry (closing (stand self.entry)) }
+        ensures exact { ClosesExactly self.entry.reader.bytes.now self.entry.rows result }
     {
         if self.rows < self.heading.carriers {
             return Err(Refused {

@@ -123,7 +123,7 @@ impl<'a> Reader<'a> {
     {
         let mut ahead = *self;
         let count = ahead.row(heading, table)?;
-        if room < used || room - used < count {
+        if room.saturating_sub(used) < count {
             return Err(Fault::bare(Refusal::TooShort));
         }
         *self = ahead;

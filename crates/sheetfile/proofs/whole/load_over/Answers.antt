@@ -49,13 +49,13 @@ loop-i-preserved c =
     let begins : BeginsWith c.row_in.new.table s.0 = subst (λ q. HoldsRow q c.row_in.new.table) (ap (λ b. row_from b c.in_ok-heading.heading c.loop-i.reader.at) l.invariant.3 ∙ f.0) c.row_in.ensures.held in (
       l.invariant.0 ++ s.0 ∷ [],
       omega (arith, entries_push l.invariant.0 s.0, s.2, l.invariant.1),
-      omega (arith, f.1, s.2),
+      omega (arith, f.1, s.2, l.invariant.2),
       ap (λ b. b.now) r.1 ∙ l.invariant.3,
       row_more c.args.bytes.now c.in_ok-heading.heading (length c.args.entries.now) c.in_ok-heading.heading.carriers c.loop-i.i l.used l.reader.at s.0 c.row_in.new.self.at l.invariant.0 _ (omega arith) is l.invariant.4
           ∙ ap (λ n. prefixed (c.loop-i.invariant.0 ++ s.0 ∷ []) (rows_from c.args.bytes.now c.in_ok-heading.heading (length c.args.entries.now) (c.in_ok-heading.heading.carriers - (c.loop-i.i + 1)) (c.loop-i.used + n) c.row_in.new.self.at)) s.2,
       omega (arith, l.invariant.5, length-set l.starts (l.i + 1) (l.used + c.in_ok-count.count)),
       starts_push l.starts l.i (l.used + c.in_ok-count.count) l.invariant.0 s.0 l.invariant.6 (omega (arith, l.invariant.1, s.2)) (omega (arith, l.invariant.5, c.loop-i-test.true)),
-      entries_put l.entries c.row_in.new.table l.used _ c.in_ok-count.count l.invariant.0 s.0 l.invariant.7 begins (sym s.2) (omega (arith, l.invariant.2, same_room)) (omega (arith, c.row_in.auto.table, f.1, s.2, same_room, length-drop l.used l.entries, length-take (length l.entries - l.used) (drop l.used l.entries))),
+      entries_put l.entries c.row_in.new.table l.used _ c.in_ok-count.count l.invariant.0 s.0 l.invariant.7 begins (sym s.2) (omega (arith, l.invariant.2, same_room)) (omega (arith, c.row_in.auto.table, f.1, s.2, l.invariant.2, same_room, length-drop l.used l.entries, length-take (length l.entries - l.used) (drop l.used l.entries))),
     )
 
 pub returns-in_err-count : goal.returns-in_err-count

@@ -36,7 +36,7 @@ loop-i-preserved c =
     let f = row_fits c.args.bytes.now c.in_ok-heading.heading c.args.room c.loop-i.used c.loop-i.reader.at (s.0, c.row_in.new.self.at) is in (
       l.invariant.0 ++ s.0 ∷ [],
       omega (arith, entries_push l.invariant.0 s.0, s.2, l.invariant.1),
-      omega (arith, f.1, s.2),
+      omega (arith, f.1, s.2, l.invariant.2),
       ap (λ b. b.now) r.1 ∙ l.invariant.3,
       row_more c.args.bytes.now c.in_ok-heading.heading c.args.room c.in_ok-heading.heading.carriers c.loop-i._i l.used l.reader.at s.0 c.row_in.new.self.at l.invariant.0 _ (omega arith) is l.invariant.4
           ∙ ap (λ n. prefixed (c.loop-i.invariant.0 ++ s.0 ∷ []) (rows_from c.args.bytes.now c.in_ok-heading.heading c.args.room (c.in_ok-heading.heading.carriers - (c.loop-i._i + 1)) (c.loop-i.used + n) c.row_in.new.self.at)) s.2,
