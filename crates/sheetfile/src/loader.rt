@@ -139,12 +139,13 @@ impl<'a> Headed<'a> {
         ensures entries { entries.new ≡ updated (next_row (stand self.old) (length starts.old) (length entries.old)) entries.old (entries_after_row (stand self.old) entries.old) }
     {
         let count = self.reader.announced()?;
-        let place = self.used.min(entries.len());
+        let low = self.used.min(entries.len());
         self.reader
-            .row(self.heading, &mut entries[place..place + count])?;
-        self.used += count;
+            .row(self.heading, &mut entries[low..low + count])?;
+        let end = self.used + count;
         self.rows += 1;
-        starts[self.rows] = self.used;
+        starts[self.rows] = end;
+        self.used = end;
         Ok(())
     }
 

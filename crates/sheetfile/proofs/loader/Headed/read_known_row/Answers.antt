@@ -18,13 +18,13 @@ returns-in_err-count c =
     let k = known (stand c.args.self.now) (length c.args.starts.now) (length c.args.entries.now) c.requires in
     err_not_ok c.in_err-count.field-0.0 (length k.0.0) (sym c.in_err-count.was ∙ c.announced.ensures ∙ k.2)
 
-pub overflow_add-place : goal.overflow_add-place
-overflow_add-place c =
+pub overflow_add-low : goal.overflow_add-low
+overflow_add-low c =
     let l = stand c.args.self.now in
     let k = known (stand c.args.self.now) (length c.args.starts.now) (length c.args.entries.now) c.requires in
     let n = ok_same c.in_ok-count.count (length k.0.0) (sym c.in_ok-count.was ∙ c.announced.ensures ∙ k.2) in
     let a = row_accepted (stand c.args.self.now) (length c.args.starts.now) (length c.args.entries.now) k.0 k.1 in
-    let m : c.min-place.result + c.in_ok-count.count ≤ length c.args.entries.now = omega (arith, n, a.1, c.min-place.ensures) in
+    let m : c.min-low.result + c.in_ok-count.count ≤ length c.args.entries.now = omega (arith, n, a.1, c.min-low.ensures) in
     search rules
 
 pub slice_bounds-row-end : goal.slice_bounds-row-end
@@ -33,7 +33,7 @@ slice_bounds-row-end c =
     let k = known (stand c.args.self.now) (length c.args.starts.now) (length c.args.entries.now) c.requires in
     let n = ok_same c.in_ok-count.count (length k.0.0) (sym c.in_ok-count.was ∙ c.announced.ensures ∙ k.2) in
     let a = row_accepted (stand c.args.self.now) (length c.args.starts.now) (length c.args.entries.now) k.0 k.1 in
-    omega (arith, n, a.1, c.min-place.ensures)
+    omega (arith, n, a.1, c.min-low.ensures)
 
 pub invariant_of-self-2 : goal.invariant_of-self-2
 invariant_of-self-2 c =
@@ -73,7 +73,7 @@ returns-clause-entries c =
     let n = ok_same c.in_ok-count.count (length k.0.0) (sym c.in_ok-count.was ∙ c.announced.ensures ∙ k.2) in
     let a = row_accepted (stand c.args.self.now) (length c.args.starts.now) (length c.args.entries.now) k.0 k.1 in
     let long : length c.row.new.table ≡ length k.0.0 =
-    omega (arith, c.row.auto.table, a.1, n, c.min-place.ensures, length-take (c.min-place.result + c.in_ok-count.count - c.min-place.result) (drop c.min-place.result c.args.entries.now), length-drop c.min-place.result c.args.entries.now) in
-    put_over c.args.entries.now c.row.new.table (map entry_of k.0.0) c.min-place.result (c.min-place.result + c.in_ok-count.count) (holds_whole c.row.new.table k.0.0 k.0.1 _ a.0 long c.row.ensures.held) (omega (arith, n, length-map k.0.0 entry_of))
-    ∙ over_end c.args.entries.now (map entry_of k.0.0) c.args.self.now.used c.min-place.result c.min-place.ensures (omega (arith, a.1, length-map k.0.0 entry_of))
+    omega (arith, c.row.auto.table, a.1, n, c.min-low.ensures, length-take (c.min-low.result + c.in_ok-count.count - c.min-low.result) (drop c.min-low.result c.args.entries.now), length-drop c.min-low.result c.args.entries.now) in
+    put_over c.args.entries.now c.row.new.table (map entry_of k.0.0) c.min-low.result (c.min-low.result + c.in_ok-count.count) (holds_whole c.row.new.table k.0.0 k.0.1 _ a.0 long c.row.ensures.held) (omega (arith, n, length-map k.0.0 entry_of))
+    ∙ over_end c.args.entries.now (map entry_of k.0.0) c.args.self.now.used c.min-low.result c.min-low.ensures (omega (arith, a.1, length-map k.0.0 entry_of))
     ∙ updated_ok (next_row l (length c.args.starts.now) (length c.args.entries.now)) k.0 c.args.entries.now (entries_after_row l c.args.entries.now) k.1
