@@ -77,33 +77,7 @@ module _ (m : Meaning) where
     acts_made zero r = []
     acts_made (suc n) r = option_to_list (act_of r) ++ acts_made n (one_step m depth r)
 
-    -- Each state of the run is consistent and in order.
-    module _ (R : RunState → Type 0) (keeps : (r : RunState) → R r → R (one_step m depth r))
-        (consistent : (r : RunState) → R r → Consistent m.carriers m.jobs m.ceiling r.tally) (ordered : (r : RunState) → R r → Ordered m r) where
-      makes : (r : RunState) → R r → MakesIf r (one_step m depth r) (act_of r)
-      makes r h = step_makes r (consistent r h) (ordered r h)
-
-      -- The acts lead from r to the last state, one for each step.
-      pub record Led (r last : RunState) (acts : List (Act × ℕ)) : Type 0 where
-        pub counted : last.steps ≡ r.steps + length acts
-        pub accepted : AllByRecursion (λ a. is_ok a ≡ true) (answers_from m (Some r.tally) (calls_of acts))
-        pub led : LeadsTo m r.tally acts last.tally
-
-      led_on : (r q last : RunState) (acts : List (Act × ℕ)) (o : Option (Act × ℕ)) → MakesIf r q o → Led q last acts → Led r last (option_to_list o ++ acts)
-      unfolding tally_from
-      led_on r q last acts None same l = subst (λ z. Led z last acts) same l
-      led_on r q last acts (Some x) made l = record {
-        counted = omega (arith, made.counted, l.counted);
-        accepted = (made.taken, subst (λ o. AllByRecursion (λ a. is_ok a ≡ true) (answers_from m o (calls_of acts))) (sym made.led) l.accepted);
-        led = ap (λ o. tally_from m o (calls_of acts)) made.led ∙ l.led;
-      }
-
-      pub all_led : (n : ℕ) (r : RunState) → R r → Led r (many_steps m depth n r) (acts_made n r)
-      unfolding many_steps tally_from
-      all_led zero r h = record { counted = omega arith; accepted = tt; led = refl }
-      all_led (suc n) r h =
-          led_on r (one_step m depth r) (many_steps m depth n (one_step m depth r)) (acts_made n (one_step m depth r)) (act_of r) (makes r h) (all_led n (one_step m depth r) (keeps r h))
-
+    module _ (R : RunState → Type 0) where
       -- The run is in this state where the tally is t and these acts are left.
       pub record Point (t : Tally) (rest : List (Act × ℕ)) : Type 0 where
         pub state : RunState
@@ -112,21 +86,73 @@ module _ (m : Meaning) where
         pub here : state.tally ≡ t
         pub on : acts_made left state ≡ rest
 
-      abbrev Points : ℕ → Type 0
-      Points n = (r : RunState) → R r → (first rest : List (Act × ℕ)) (t : Tally) → acts_made n r ≡ first ++ rest → LeadsTo m r.tally first t → Point t rest
+      -- The run is in this state where the tally is t, x is the next act, and these are left behind it.
+      pub record Next (t : Tally) (x : Act × ℕ) (rest : List (Act × ℕ)) : Type 0 where
+        pub state : RunState
+        pub left : ℕ
+        pub holds : R state
+        pub here : state.tally ≡ t
+        pub next : act_of state ≡ Some x
+        pub on : acts_made left (one_step m depth state) ≡ rest
 
-      point_on : (n : ℕ) → Points n → (r : RunState) → R r → (a : Act × ℕ) (first rest : List (Act × ℕ)) (t : Tally) (o : Option (Act × ℕ)) → MakesIf r (one_step m depth r) o →
-          option_to_list o ++ acts_made n (one_step m depth r) ≡ a ∷ (first ++ rest) → LeadsTo m r.tally (a ∷ first) t → Point t rest
-      unfolding tally_from
-      point_on n next r h a first rest t None same e l = next r h (a ∷ first) rest t (ap (acts_made n) (sym same) ∙ e) l
-      point_on n next r h a first rest t (Some x) made e l =
-          let same : x ≡ a = cc in
-          let on : acts_made n (one_step m depth r) ≡ first ++ rest = cc in
-          next (one_step m depth r) (keeps r h) first rest t on
-          (ap (λ o. tally_from m o (calls_of first)) (sym made.led ∙ ap (λ y. tally_by m (Some r.tally) (act_call y.0 y.1)) same) ∙ l)
+      -- Each state of the run is consistent and in order.
+      module _ (keeps : (r : RunState) → R r → R (one_step m depth r))
+          (consistent : (r : RunState) → R r → Consistent m.carriers m.jobs m.ceiling r.tally) (ordered : (r : RunState) → R r → Ordered m r) where
+        makes : (r : RunState) → R r → MakesIf r (one_step m depth r) (act_of r)
+        makes r h = step_makes r (consistent r h) (ordered r h)
 
-      pub at_point : (n : ℕ) → Points n
-      unfolding tally_from
-      at_point n r h [] rest t e l = record { state = r; left = n; holds = h; here = (let s : Some r.tally ≡ Some t = l in cc); on = e }
-      at_point zero r h (a ∷ first) rest t e l = absurd (let s : length {A = Act × ℕ} [] ≡ length (a ∷ (first ++ rest)) = ap length e in omega (arith, s))
-      at_point (suc n) r h (a ∷ first) rest t e l = point_on n (at_point n) r h a first rest t (act_of r) (makes r h) e l
+        -- The acts lead from r to the last state, one for each step.
+        pub record Led (r last : RunState) (acts : List (Act × ℕ)) : Type 0 where
+          pub counted : last.steps ≡ r.steps + length acts
+          pub accepted : AllByRecursion (λ a. is_ok a ≡ true) (answers_from m (Some r.tally) (calls_of acts))
+          pub led : LeadsTo m r.tally acts last.tally
+
+        led_on : (r q last : RunState) (acts : List (Act × ℕ)) (o : Option (Act × ℕ)) → MakesIf r q o → Led q last acts → Led r last (option_to_list o ++ acts)
+        unfolding tally_from
+        led_on r q last acts None same l = subst (λ z. Led z last acts) same l
+        led_on r q last acts (Some x) made l = record {
+          counted = omega (arith, made.counted, l.counted);
+          accepted = (made.taken, subst (λ o. AllByRecursion (λ a. is_ok a ≡ true) (answers_from m o (calls_of acts))) (sym made.led) l.accepted);
+          led = ap (λ o. tally_from m o (calls_of acts)) made.led ∙ l.led;
+        }
+
+        pub all_led : (n : ℕ) (r : RunState) → R r → Led r (many_steps m depth n r) (acts_made n r)
+        unfolding many_steps tally_from
+        all_led zero r h = record { counted = omega arith; accepted = tt; led = refl }
+        all_led (suc n) r h =
+            led_on r (one_step m depth r) (many_steps m depth n (one_step m depth r)) (acts_made n (one_step m depth r)) (act_of r) (makes r h) (all_led n (one_step m depth r) (keeps r h))
+
+        abbrev Points : ℕ → Type 0
+        Points n = (r : RunState) → R r → (first rest : List (Act × ℕ)) (t : Tally) → acts_made n r ≡ first ++ rest → LeadsTo m r.tally first t → Point t rest
+
+        point_on : (n : ℕ) → Points n → (r : RunState) → R r → (a : Act × ℕ) (first rest : List (Act × ℕ)) (t : Tally) (o : Option (Act × ℕ)) → MakesIf r (one_step m depth r) o →
+            option_to_list o ++ acts_made n (one_step m depth r) ≡ a ∷ (first ++ rest) → LeadsTo m r.tally (a ∷ first) t → Point t rest
+        unfolding tally_from
+        point_on n next r h a first rest t None same e l = next r h (a ∷ first) rest t (ap (acts_made n) (sym same) ∙ e) l
+        point_on n next r h a first rest t (Some x) made e l =
+            let same : x ≡ a = cc in
+            let on : acts_made n (one_step m depth r) ≡ first ++ rest = cc in
+            next (one_step m depth r) (keeps r h) first rest t on
+            (ap (λ o. tally_from m o (calls_of first)) (sym made.led ∙ ap (λ y. tally_by m (Some r.tally) (act_call y.0 y.1)) same) ∙ l)
+
+        pub at_point : (n : ℕ) → Points n
+        unfolding tally_from
+        at_point n r h [] rest t e l = record { state = r; left = n; holds = h; here = (let s : Some r.tally ≡ Some t = l in cc); on = e }
+        at_point zero r h (a ∷ first) rest t e l = absurd (let s : length {A = Act × ℕ} [] ≡ length (a ∷ (first ++ rest)) = ap length e in omega (arith, s))
+        at_point (suc n) r h (a ∷ first) rest t e l = point_on n (at_point n) r h a first rest t (act_of r) (makes r h) e l
+
+        abbrev Nexts : ℕ → Type 0
+        Nexts n = (r : RunState) → R r → (t : Tally) → r.tally ≡ t → (x : Act × ℕ) (rest : List (Act × ℕ)) → acts_made n r ≡ x ∷ rest → Next t x rest
+
+        -- A step without an act changes nothing.
+        next_on : (n : ℕ) → Nexts n → (r : RunState) → R r → (t : Tally) → r.tally ≡ t → (x : Act × ℕ) (rest : List (Act × ℕ)) (o : Option (Act × ℕ)) → act_of r ≡ o →
+            MakesIf r (one_step m depth r) o → option_to_list o ++ acts_made n (one_step m depth r) ≡ x ∷ rest → Next t x rest
+        next_on n nexts r h t here x rest None is same e = nexts r h t here x rest (ap (acts_made n) (sym same) ∙ e)
+        next_on n nexts r h t here x rest (Some y) is made e = record { state = r; left = n; holds = h; here = here; next = is ∙ ap Some (let same : y ≡ x = cc in same); on = cc }
+
+        next_of : (n : ℕ) → Nexts n
+        next_of zero r h t here x rest e = absurd (let s : length {A = Act × ℕ} [] ≡ length (x ∷ rest) = ap length e in omega (arith, s))
+        next_of (suc n) r h t here x rest e = next_on n (next_of n) r h t here x rest (act_of r) refl (makes r h) e
+
+        pub at_next : (n : ℕ) (r : RunState) → R r → (first rest : List (Act × ℕ)) (x : Act × ℕ) (t : Tally) → acts_made n r ≡ first ++ x ∷ rest → LeadsTo m r.tally first t → Next t x rest
+        at_next n r h first rest x t e l = let p = at_point n r h first (x ∷ rest) t e l in next_of p.left p.state p.holds t p.here x rest p.on

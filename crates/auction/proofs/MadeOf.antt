@@ -1,30 +1,49 @@
 -- A run is made of as many accepted summonses, looks and settles as it makes steps; the depth keeps them narrow, and the line in turn.
-use Rattle.std.proofs.Common.{◌≡◌, ℕ, ◌≤◌, max, ◌≢◌, List, ◌∷◌, ◌++◌, length, Some, Ok, Err, Result, sym, refl, ap, ◌∙◌, subst, ⊎_elim, append_assoc, arith}
-use Rattle.std.specs.Prelude.{Contains}
-use Rattle.std.proofs.lemmas.Bool.{cases_Bool, cond-true, cond-false, false≢true}
+use Rattle.std.proofs.Common.{◌≡◌, ℕ, zero, suc, ◌<◌, ◌≤◌, max, Bool, true, false, ltb, ◌≢◌, List, [], ◌∷◌, ◌++◌, length, Some, None, Ok, Err, Result, sym, refl, ap, ◌∙◌, subst, ⊎_elim, append_assoc, arith}
+use Rattle.std.specs.Prelude.{◌↔◌}
+use Rattle.std.proofs.lemmas.Bool.{cases_Bool, cond-true, cond-false, false≢true, ltb-true, ltb-false}
 use mathlib.Core.Logic.{∥∥₁_elim}
 use Rattle.sources.specs.Meaning.{Meaning, Sound}
 use Rattle.refusals.specs.declared.Refusal.{Refusal}
 use Rattle.refusals.specs.declared.Refusal.TheVariants.{DepthOutside}
 use Rattle.auction.specs.declared.standing.Act.{Act}
-use Rattle.auction.specs.declared.standing.Act.TheVariants.{Summon}
+use Rattle.auction.specs.declared.standing.Act.TheVariants.{Summon, Look}
 use Rattle.auction.specs.declared.standing.Report.{Report}
-use Rattle.auction.specs.declared.standing.Standing.TheVariants.{Waiting}
-use Rattle.auction.specs.Tally.{Tally, standing_at}
+use Rattle.auction.specs.declared.standing.InFlight.{InFlight}
+use Rattle.auction.specs.Tally.{Tally, standing_at, is_bidding}
 use Rattle.auction.specs.Rules.{between}
 use Rattle.auction.specs.Consistent.{Consistent}
 use Rattle.auction.specs.Runs.{RunState, beginning, one_step, many_steps, run_report, run_answer, run_tally, ran}
 use Rattle.auction.specs.InOrder.{Ordered}
-use Rattle.auction.specs.Laws.{bidding}
-use Rattle.auction.specs.MadeOf.{LeadsTo, InRounds, MadeOf, RunsMade}
+use Rattle.auction.specs.Laws.{waiting, bidding}
+use Rattle.auction.specs.MadeOf.{LeadsTo, is_ready, Acted, InRounds, MadeOf, RunsMade}
 use Rattle.auction.specs.Reached.{Reached}
 use Rattle.auction.proofs.Invariant.{Invariant}
 use Rattle.auction.proofs.Props.{invariant_prop}
-use Rattle.auction.proofs.Steps.{begins_ordered, step_consistent, step_ordered, flight_length}
+use Rattle.auction.proofs.Steps.{begins_ordered, step_consistent, step_ordered, line_length, flight_length}
 use Rattle.auction.proofs.CallsKeep.{invariant_after}
-use Rattle.auction.proofs.Acts.{acts_made, all_led, at_point}
-use Rattle.auction.proofs.InTurn.{summoned_before}
+use Rattle.auction.proofs.Acts.{first_act, act_by, acts_made, Point, Next, all_led, at_point, at_next}
+use Rattle.auction.proofs.InTurn.{ready_before, ready_ascending, looks_round}
 use Rattle.auction.proofs.InRounds.{step_short, none_open, Alone, all_stales, in_rounds}
+
+not_summon : (left : ℕ) → first_act left ≢ Summon
+not_summon zero e = false≢true cc
+not_summon (suc left) e = false≢true cc
+
+-- The next act is a summons exactly if somebody is in line and the flight is short.
+fills_by : (depth : ℕ) (short : Bool) (line : List ℕ) (flight : List InFlight) → ltb (length flight) depth ≡ short → (x : Act × ℕ) → act_by short line flight ≡ Some x →
+    (x.0 ≡ Summon) ↔ ((0 < length line) × (length flight < depth))
+fills_by depth true [] [] q x e = absurd (false≢true cc)
+fills_by depth true [] (f ∷ flight) q x e =
+    let s : first_act f.looks_left ≡ x.0 = (let p : (first_act f.looks_left, f.carrier) ≡ x = cc in ap (λ (z : Act × ℕ). z.0) p) in
+    (λ n. absurd (not_summon f.looks_left (s ∙ n)), λ w. absurd (omega (arith, w.0)))
+fills_by depth true (i ∷ line) flight q x e =
+    let p : (Summon, i) ≡ x = cc in
+    (λ n. (omega arith, ltb-true (length flight) depth q), λ w. sym (ap (λ (z : Act × ℕ). z.0) p))
+fills_by depth false line [] q x e = absurd (false≢true cc)
+fills_by depth false line (f ∷ flight) q x e =
+    let s : first_act f.looks_left ≡ x.0 = (let p : (first_act f.looks_left, f.carrier) ≡ x = cc in ap (λ (z : Act × ℕ). z.0) p) in
+    (λ n. absurd (not_summon f.looks_left (s ∙ n)), λ w. let b = ltb-false (length (f ∷ flight)) depth q in absurd (omega (arith, b, w.1)))
 
 module _ (m : Meaning) (sound : Sound m) (depth : ℕ) where
   -- A state of the run, with at most w in flight.
@@ -52,20 +71,44 @@ module _ (m : Meaning) (sound : Sound m) (depth : ℕ) where
     unfolding beginning
     begins = record { consistent = inv.consistent; ordered = begins_ordered m t; few = omega (arith, flight_length m from (begins_ordered m t)) }
 
-    is_narrow : (first rest : List (Act × ℕ)) (u : Tally) → acts_made m depth budget from ≡ first ++ rest → LeadsTo m t first u → bidding u ≤ most
-    unfolding beginning
-    is_narrow first rest u e l =
-        let p = at_point m depth (Within most) (step_within most (omega arith)) (λ r h. h.consistent) (λ r h. h.ordered) budget from begins first rest u e l in
-        subst (λ z. bidding z ≤ most) p.here (omega (arith, flight_length m p.state p.holds.ordered, p.holds.few))
+    abbrev made : List (Act × ℕ)
+    made = acts_made m depth budget from
 
-    goes_in_turn : (first mid rest : List (Act × ℕ)) (i k : ℕ) (u : Tally) → acts_made m depth budget from ≡ first ++ mid ++ (Summon, k) ∷ rest → LeadsTo m t first u →
-        standing_at u i ≡ Waiting → standing_at u k ≢ Waiting → Contains mid (Summon, i)
+    point : (first rest : List (Act × ℕ)) (u : Tally) → made ≡ first ++ rest → LeadsTo m t first u → Point m depth (Within most) u rest
     unfolding beginning
-    goes_in_turn first mid rest i k u e l waits elsewhere =
-        let p = at_point m depth (Within most) (step_within most (omega arith)) (λ r h. h.consistent) (λ r h. h.ordered) budget from begins first (mid ++ (Summon, k) ∷ rest) u
-        (e ∙ append_assoc first mid ((Summon, k) ∷ rest)) l in
-        summoned_before m depth i k (λ same. elsewhere (ap (standing_at u) (sym same) ∙ waits)) p.left p.state p.holds.ordered
-        (ap (λ z. standing_at z i) p.here ∙ waits) (λ q. elsewhere (ap (λ z. standing_at z k) (sym p.here) ∙ q)) mid rest p.on
+    point first rest u e l = at_point m depth (Within most) (step_within most (omega arith)) (λ r h. h.consistent) (λ r h. h.ordered) budget from begins first rest u e l
+
+    next : (first rest : List (Act × ℕ)) (x : Act × ℕ) (u : Tally) → made ≡ first ++ x ∷ rest → LeadsTo m t first u → Next m depth (Within most) u x rest
+    unfolding beginning
+    next first rest x u e l = at_next m depth (Within most) (step_within most (omega arith)) (λ r h. h.consistent) (λ r h. h.ordered) budget from begins first rest x u e l
+
+    is_narrow : (first rest : List (Act × ℕ)) (u : Tally) → made ≡ first ++ rest → LeadsTo m t first u → bidding u ≤ most
+    is_narrow first rest u e l =
+        let p = point first rest u e l in subst (λ z. bidding z ≤ most) p.here (omega (arith, flight_length m p.state p.holds.ordered, p.holds.few))
+
+    fills_up : (first rest : List (Act × ℕ)) (x : Act × ℕ) (u : Tally) → made ≡ first ++ x ∷ rest → LeadsTo m t first u → (x.0 ≡ Summon) ↔ ((0 < waiting u) × (bidding u < depth))
+    fills_up first rest x u e l =
+        let p = next first rest x u e l in
+        subst (λ z. (x.0 ≡ Summon) ↔ ((0 < waiting z) × (bidding z < depth))) p.here
+        (subst (λ n. (x.0 ≡ Summon) ↔ ((0 < n) × (bidding p.state.tally < depth))) (line_length m p.state p.holds.ordered)
+        (subst (λ n. (x.0 ≡ Summon) ↔ ((0 < length p.state.line) × (n < depth))) (flight_length m p.state p.holds.ordered)
+        (fills_by depth (ltb (length p.state.flight) depth) p.state.line p.state.flight refl x p.next)))
+
+    goes_in_turn : (first mid rest : List (Act × ℕ)) (a : Act) (i k : ℕ) (u : Tally) → made ≡ first ++ mid ++ (a, k) ∷ rest → LeadsTo m t first u →
+        is_ready a (standing_at u i) ≡ true → is_ready a (standing_at u k) ≡ false → Acted mid i
+    goes_in_turn first mid rest a i k u e l ready unready =
+        let p = point first (mid ++ (a, k) ∷ rest) u (e ∙ append_assoc first mid ((a, k) ∷ rest)) l in
+        ready_before m depth p.left i k mid rest p.state p.holds.ordered a (ap (λ z. is_ready a (standing_at z i)) p.here ∙ ready) (ap (λ z. is_ready a (standing_at z k)) p.here ∙ unready) p.on
+
+    goes_round : (first mid rest : List (Act × ℕ)) (a : Act) (i k : ℕ) (u : Tally) → made ≡ first ++ (Look, k) ∷ mid ++ (a, k) ∷ rest → LeadsTo m t first u →
+        a ≢ Summon → i ≢ k → is_bidding (standing_at u i) ≡ true → Acted mid i
+    goes_round first mid rest a i k u e l other apart bids =
+        let p = next first (mid ++ (a, k) ∷ rest) (Look, k) u (e ∙ append_assoc first ((Look, k) ∷ mid) ((a, k) ∷ rest)) l in
+        looks_round m depth p.left i k mid rest p.state p.holds.ordered apart (ap (λ z. is_bidding (standing_at z i)) p.here ∙ bids) p.next a other p.on
+
+    goes_ascending : (first rest : List (Act × ℕ)) (a : Act) (i k : ℕ) → made ≡ first ++ (a, k) ∷ rest → i < k →
+        is_ready a (standing_at t i) ≡ true → is_ready a (standing_at t k) ≡ true → Acted first i
+    goes_ascending first rest a i k e l ready both = ready_ascending m depth budget i k first rest t a l ready e
 
   one_by_one : (budget : ℕ) (t : Tally) → Invariant m t → depth ≡ 1 → bidding t ≡ 0 →
       InRounds m t (acts_made m depth budget (beginning m t)) × ((run_report t (many_steps m depth budget (beginning m t))).counts.stales ≡ 0)
@@ -85,7 +128,10 @@ module _ (m : Meaning) (sound : Sound m) (depth : ℕ) where
         accepted = l.accepted;
         led = l.led;
         narrow = is_narrow budget t inv;
+        fills = fills_up budget t inv;
         in_turn = goes_in_turn budget t inv;
+        round_robin = goes_round budget t inv;
+        ascending = goes_ascending budget t inv;
         sequential = one_by_one budget t inv;
       }
 

@@ -37,6 +37,29 @@ module _ {X : Type 0} (number : X → ℕ) where
   pub times_there : (k : ℕ) (x : X) (xs : List X) → (k ≡ number x → ⊥) → times_in number k (xs ++ x ∷ []) ≡ times_in number k xs
   times_there k x xs n = let a = times_append k xs (x ∷ []) in let b = times_later k x [] n in omega (arith, a, b)
 
+  -- Who is in a list has some before it and some behind it.
+  pub record Place (i : ℕ) (xs : List X) : Type 0 where
+    pub front : List X
+    pub it : X
+    pub back : List X
+    pub is : xs ≡ front ++ it ∷ back
+    pub numbered : number it ≡ i
+
+  pub place : (i : ℕ) (xs : List X) → 1 ≤ times_in number i xs → Place i xs
+  place i [] l = absurd (omega arith)
+  place i (x ∷ xs) l = go (place i xs)
+    where
+      go : (1 ≤ times_in number i xs → Place i xs) → Place i (x ∷ xs)
+      go rest =
+          ⊎_elim (λ e. record { front = []; it = x; back = xs; is = refl; numbered = sym e })
+          (λ n. let w = rest (omega (arith, times_later i x xs n, l)) in record { front = x ∷ w.front; it = w.it; back = w.back; is = ap (λ z. x ∷ z) w.is; numbered = w.numbered })
+          (cases_eq i (number x))
+
+  -- It stands before all with a larger number.
+  pub record Lowest (i : ℕ) (xs : List X) : Type 0 where
+    pub at : Place i xs
+    pub low : (k : ℕ) → i < k → times_in number k at.front ≡ 0
+
   all_apart : (P : X → Type 0) (i : ℕ) (xs : List X) → times_in number i xs ≡ 0 → AllByRecursion P xs → AllByRecursion (λ x. (number x ≡ i → ⊥) × P x) xs
   all_apart P i [] z h = tt
   all_apart P i (x ∷ xs) z h =
@@ -117,6 +140,38 @@ module _ {X : Type 0} (f : ℕ → Standing → List X) where
         let e : i + suc k ≡ suc i + k = omega arith in
         let r : times_in number (i + suc k) (gathered f (suc i) ss) ≡ one (p (get_or ss k Out)) = ap (λ z. times_in number z (gathered f (suc i) ss)) e ∙ gathered_at (suc i) ss k in
         omega (arith, times_append number (i + suc k) (f i s) (gathered f (suc i) ss), there (i + suc k) i s (λ q. omega (arith, q)), r)
+
+    -- What is gathered is ascending.
+    pub gathered_lowest : (i n : ℕ) (ss : List Standing) → p (get_or ss n Out) ≡ true → Lowest number (i + n) (gathered f i ss)
+    gathered_lowest i n [] e = absurd (both_ways (p Out) none e)
+    gathered_lowest i zero (s ∷ ss) e =
+        let w = place number i (f i s) (omega (arith, (let c : times_in number i (f i s) ≡ 1 = here i s ∙ ap one e in c))) in
+        let b : (k : ℕ) → times_in number k (f i s) ≡ times_in number k w.front + times_in number k (w.it ∷ w.back) =
+        λ k. ap (times_in number k) w.is ∙ times_append number k w.front (w.it ∷ w.back) in
+        subst (λ z. Lowest number z (gathered f i (s ∷ ss))) (omega arith)
+        (record {
+          at = record {
+            front = w.front;
+            it = w.it;
+            back = w.back ++ gathered f (suc i) ss;
+            is = ap (λ z. z ++ gathered f (suc i) ss) w.is ∙ append_assoc w.front (w.it ∷ w.back) (gathered f (suc i) ss);
+            numbered = w.numbered;
+          };
+          low = λ k l. omega (arith, there k i s (λ q. omega (arith, q, l)), b k);
+        })
+    gathered_lowest i (suc n) (s ∷ ss) e =
+        let w = gathered_lowest (suc i) n ss e in
+        subst (λ z. Lowest number z (gathered f i (s ∷ ss))) (omega arith)
+        (record {
+          at = record {
+            front = f i s ++ w.at.front;
+            it = w.at.it;
+            back = w.at.back;
+            is = ap (λ z. f i s ++ z) w.at.is ∙ sym (append_assoc (f i s) w.at.front (w.at.it ∷ w.at.back));
+            numbered = w.at.numbered;
+          };
+          low = λ k l. omega (arith, times_append number k (f i s) w.at.front, there k i s (λ q. omega (arith, q, l)), w.low k l);
+        })
 
 -- ---- one standing changes
 

@@ -31,7 +31,7 @@ use Rattle.auction.proofs.Gathering.{looks_on}
 use Rattle.auction.proofs.Counted.{one}
 use Rattle.auction.proofs.Matching.{holder_served}
 use Rattle.auction.proofs.Keeping.{call_consistent, settle_consistent}
-use Rattle.auction.proofs.Queues.{times_first, times_later, times_count, gathered_at, bidding_within, is_waiting_lem, within, joins, rotates, leaves, returns, displaces}
+use Rattle.auction.proofs.Queues.{times_first, times_later, times_count, Lowest, gathered_at, gathered_lowest, bidding_within, is_waiting_lem, within, joins, rotates, leaves, returns, displaces}
 
 -- ---- what every summons, look and settle keeps, each step keeps
 
@@ -323,10 +323,21 @@ begins_ordered m t = record {
   due = flight_due m t.lanes t.standings 0 t.standings (λ k. ap (λ z. get_or t.standings z Out) (omega arith));
 }
 
+pub line_lowest : (m : Meaning) (t : Tally) (i : ℕ) → is_waiting (standing_at t i) ≡ true → Lowest (λ z. z) i (beginning m t).line
+unfolding beginning
+line_lowest m t i e =
+    subst (λ z. Lowest (λ y. y) z (gathered if_waiting 0 t.standings)) (omega arith) (gathered_lowest if_waiting (λ z. z) is_waiting refl waiting_here waiting_there 0 i t.standings e)
+
+pub flight_lowest : (m : Meaning) (t : Tally) (i : ℕ) → is_bidding (standing_at t i) ≡ true → Lowest {X = InFlight} (λ f. f.carrier) i (beginning m t).flight
+unfolding beginning
+flight_lowest m t i e =
+    subst (λ z. Lowest {X = InFlight} (λ f. f.carrier) z (gathered (if_bidding m t.lanes) 0 t.standings)) (omega arith)
+    (gathered_lowest (if_bidding m t.lanes) (λ f. f.carrier) is_bidding refl (bidding_here m t.lanes) (bidding_there m t.lanes) 0 i t.standings e)
+
 -- ---- what follows from the order
 
 module _ (m : Meaning) where
-  line_length : (r : RunState) → Ordered m r → length r.line ≡ count_by is_waiting r.tally.standings
+  pub line_length : (r : RunState) → Ordered m r → length r.line ≡ count_by is_waiting r.tally.standings
   line_length r law = times_count is_waiting refl (λ z. z) r.line r.tally.standings law.waits
 
   pub flight_length : (r : RunState) → Ordered m r → length r.flight ≡ count_by is_bidding r.tally.standings

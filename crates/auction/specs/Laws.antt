@@ -9,7 +9,7 @@ use Rattle.auction.specs.declared.standing.Held.{Held}
 use Rattle.auction.specs.declared.standing.Verdict.TheVariants.{Stale, Awarded}
 use Rattle.auction.specs.declared.standing.Standing.{Standing}
 use Rattle.auction.specs.declared.standing.Standing.TheVariants.{Waiting, Bidding, Served, Out}
-use Rattle.auction.specs.Tally.{Tally, price_at, holder_at, standing_at, is_served, is_bidding, total_worth}
+use Rattle.auction.specs.Tally.{Tally, price_at, holder_at, standing_at, is_waiting, is_served, is_bidding, total_worth}
 use Rattle.auction.specs.Bids.{natural, offer}
 use Rattle.auction.specs.Looks.{net_at}
 use Rattle.auction.specs.Found.{Found}
@@ -52,6 +52,9 @@ pairing_of t = map job_served t.standings
 
 abbrev pub served : Tally → ℕ
 served t = count_by is_served t.standings
+
+abbrev pub waiting : Tally → ℕ
+waiting t = count_by is_waiting t.standings
 
 abbrev pub bidding : Tally → ℕ
 bidding t = count_by is_bidding t.standings

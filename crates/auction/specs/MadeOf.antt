@@ -1,19 +1,19 @@
 -- What a run is made of, said by calls: no line and no flight.
-use Rattle.std.specs.Prelude.{◌≡◌, ℕ, ◌≤◌, max, true, List, [], ◌∷◌, ◌++◌, map, length, replicate, is_ok, Some, Ok, Contains, flat_map, ◌≢◌}
+use Rattle.std.specs.Prelude.{◌≡◌, ℕ, ◌<◌, ◌≤◌, max, Bool, true, false, List, [], ◌∷◌, ◌++◌, map, length, replicate, is_ok, Some, Ok, Contains, flat_map, ◌≢◌, ◌↔◌}
 use Rattle.std.specs.List.{AllByRecursion}
 use Rattle.sources.specs.Meaning.{Meaning, row_of}
 use Rattle.auction.specs.declared.standing.Act.{Act}
 use Rattle.auction.specs.declared.standing.Act.TheVariants.{Summon as Summons, Look as Looks, Settle as Settles}
 use Rattle.auction.specs.declared.standing.Report.{Report}
-use Rattle.auction.specs.declared.standing.Standing.TheVariants.{Waiting}
+use Rattle.auction.specs.declared.standing.Standing.{Standing}
 use Rattle.auction.specs.declared.standing.Verdict.{Verdict}
 use Rattle.auction.specs.declared.call.Call.{Call}
 use Rattle.auction.specs.declared.call.Call.TheVariants.{Summon, Look, Settle}
-use Rattle.auction.specs.Tally.{Tally, standing_at}
+use Rattle.auction.specs.Tally.{Tally, standing_at, is_waiting, is_bidding}
 use Rattle.auction.specs.Rules.{settle_answer}
 use Rattle.auction.specs.Runs.{looks_for, run_answer, run_tally}
 use Rattle.auction.specs.Calls.{tally_from, tally_after, answers_from}
-use Rattle.auction.specs.Laws.{bidding}
+use Rattle.auction.specs.Laws.{waiting, bidding}
 use Rattle.auction.specs.Sequential.{Sequential}
 
 -- The call on carrier i.
@@ -28,6 +28,16 @@ calls_of acts = map (λ a. act_call a.0 a.1) acts
 -- Made one after the other, the acts lead from one tally to the other.
 abbrev pub LeadsTo : Meaning → Tally → List (Act × ℕ) → Tally → Type 0
 LeadsTo m before acts after = tally_from m (Some before) (calls_of acts) ≡ Some after
+
+-- Who waits is ready to be summoned, and who bids to look or to settle.
+abbrev pub is_ready : Act → Standing → Bool
+is_ready Summons s = is_waiting s
+is_ready Looks s = is_bidding s
+is_ready Settles s = is_bidding s
+
+-- One of the acts is carrier i's.
+abbrev pub Acted : List (Act × ℕ) → ℕ → Type 0
+Acted acts i = Contains (map (λ a. a.1) acts) i
 
 -- A carrier's round: it is summoned, looks at its whole row, and settles.
 abbrev pub round : Meaning → ℕ → ℕ → List (Act × ℕ)
@@ -51,9 +61,18 @@ pub record MadeOf (m : Meaning) (depth : ℕ) (before after : Tally) (p : Report
   pub led : LeadsTo m before acts after
   -- At no point are more bids open than the depth, or than before the run.
   pub narrow : (first rest : List (Act × ℕ)) (t : Tally) → acts ≡ first ++ rest → LeadsTo m before first t → bidding t ≤ max depth (bidding before)
-  -- First in, first out: whoever waits is summoned before whoever does not wait yet. So nobody overtakes a waiting carrier twice.
-  pub in_turn : (first between rest : List (Act × ℕ)) (i k : ℕ) (t : Tally) → acts ≡ first ++ between ++ (Summons, k) ∷ rest → LeadsTo m before first t →
-      standing_at t i ≡ Waiting → standing_at t k ≢ Waiting → Contains between (Summons, i)
+  -- The next act is a summons exactly if somebody waits and fewer bids than the depth are open.
+  pub fills : (first rest : List (Act × ℕ)) (x : Act × ℕ) (t : Tally) → acts ≡ first ++ x ∷ rest → LeadsTo m before first t →
+      (x.0 ≡ Summons) ↔ ((0 < waiting t) × (bidding t < depth))
+  -- First in, first out: whoever is ready for an act acts before whoever is not ready for it yet. So nobody overtakes a waiting carrier twice.
+  pub in_turn : (first between rest : List (Act × ℕ)) (a : Act) (i k : ℕ) (t : Tally) → acts ≡ first ++ between ++ (a, k) ∷ rest → LeadsTo m before first t →
+      is_ready a (standing_at t i) ≡ true → is_ready a (standing_at t k) ≡ false → Acted between i
+  -- Round robin: who has looked does not look again or settle before everybody else who bids has acted.
+  pub round_robin : (first between rest : List (Act × ℕ)) (a : Act) (i k : ℕ) (t : Tally) → acts ≡ first ++ (Looks, k) ∷ between ++ (a, k) ∷ rest →
+      LeadsTo m before first t → a ≢ Summons → i ≢ k → is_bidding (standing_at t i) ≡ true → Acted between i
+  -- Those who are ready at the beginning act in the order of their numbers.
+  pub ascending : (first rest : List (Act × ℕ)) (a : Act) (i k : ℕ) → acts ≡ first ++ (a, k) ∷ rest → i < k →
+      is_ready a (standing_at before i) ≡ true → is_ready a (standing_at before k) ≡ true → Acted first i
   -- At depth 1 and begun with no open bid, it is the sequential auction, and no bid is stale.
   pub sequential : depth ≡ 1 → bidding before ≡ 0 → InRounds m before acts × (p.counts.stales ≡ 0)
 
