@@ -21,8 +21,7 @@ use Rattle.auction.specs.Sequential.{Sequential}
 use Rattle.auction.proofs.Counted.{one}
 use Rattle.auction.proofs.Invariant.{Invariant}
 use Rattle.auction.proofs.InvariantKept.{call_keeps, settle_keeps}
-use Rattle.auction.proofs.Undisturbed.{counted_awards}
-use Rattle.auction.proofs.Sequential.{SeenAt, idle_seen, call_steady, settles}
+use Rattle.auction.proofs.Sequential.{counted_awards, SeenAt, idle_seen, call_steady, settles}
 use Rattle.auction.proofs.Steps.{step_holds, step_ordered}
 use Rattle.auction.proofs.Acts.{first_act, act_by, act_of, acts_made, at_point}
 

@@ -6,7 +6,7 @@ use Rattle.std.specs.List.{AllByRecursion}
 use Rattle.std.proofs.Math.Nat.{le-mul_of_pos_right}
 use Rattle.std.proofs.lemmas.Option.{none-some, same_Some}
 use Rattle.std.proofs.lemmas.Bool.{cases_lt, cond_both, both_ways, leb-true, false≢true}
-use Rattle.std.proofs.lemmas.List.{length-map, get_or-map, get_or_past}
+use Rattle.std.proofs.lemmas.List.{length-map, length-take, get_or-map, get_or-take, get_or_default, get_or_past}
 use Rattle.std.proofs.lemmas.List.Sums.{sum_by-cons, count_by-le-length}
 use Rattle.sources.specs.Meaning.{Meaning, Sound, row_of, worth_in, worth_of}
 use Rattle.sources.specs.Layers.{scaled, revalued_row, times_of}
@@ -19,7 +19,7 @@ use Rattle.auction.specs.declared.standing.Held.{Held}
 use Rattle.auction.specs.declared.standing.Standing.{Standing}
 use Rattle.auction.specs.declared.standing.Standing.TheVariants.{Waiting, Bidding, Served, Out}
 use Rattle.auction.specs.Tally.{Tally, price_at, holder_at, standing_at, is_served, is_bidding, worth_served}
-use Rattle.auction.specs.Bids.{offer, judged_best}
+use Rattle.auction.specs.Bids.{natural, offer, judged_best}
 use Rattle.auction.specs.Rules.{verdict_in}
 use Rattle.auction.specs.Consistent.{BestSound, BidSound, StandingSound}
 use Rattle.auction.specs.Looks.{net_at}
@@ -238,11 +238,6 @@ module _ (m : Meaning) (sound : Sound m) (t : Tally) (law : Invariant m t) where
       stale_not : (w : Verdict) → is_stale w ≡ false → w ≡ Stale → ⊥
       stale_not w a c = both_ways (is_stale w) a (ap is_stale c)
 
-  unmoved : (i : ℕ) (b : Bid) (x : Best) → standing_at t i ≡ Bidding b → b.best ≡ Some x → pos x.worth -ℤ pos (price_at t x.job) ≡ x.net → verdict_in t b ≡ Stale → ⊥
-  unmoved i b x e q n v =
-      let r = risen i b x e q v in
-      let w : up x.net + price_at t x.job ≡ x.worth + down x.net = subst (λ z. up z + price_at t x.job ≡ x.worth + down z) n (net_is x.worth (price_at t x.job)) in omega (arith, r, w)
-
   bid_is : (i : ℕ) (b : Bid) (x : Best) → standing_at t i ≡ Bidding b → b.best ≡ Some x → OpenBid m t i b x
   bid_is i b x e q =
       let l = among i (λ o. both_ways (is_bidding (standing_at t i)) (ap is_bidding o) (ap is_bidding e)) in
@@ -255,8 +250,16 @@ module _ (m : Meaning) (sound : Sound m) (t : Tally) (law : Invariant m t) where
         risen = omega (arith, f.seen);
         bid_is = λ above. let p = lt_out (pos 0) x.net above in let o = natural-up x.net in let u = g.low_runner in omega (arith, p, z, o, u, low);
         stale_why = λ v. let r = risen i b x e q v in omega (arith, r, low, z);
-        conservative = λ k h ne. let o = f.others k h ne in let n = natural-up (net_at t.prices (get_or (row_of m i) k (0, 0))).net in
-            let w = net_is (worth_on (row_of m i) k) (price_at t (job_in (row_of m i) k)) in let s = sides (net_at t.prices (get_or (row_of m i) k (0, 0))).net in omega (arith, o, n, w, s);
+        conservative = λ y c ne.
+            let h = length-take b.looked (row_of m i) in
+            let l : c.0 < b.looked = omega (arith, c.1, h) in
+            let there : get_or (row_of m i) c.0 (0, 0) ≡ y =
+            get_or_default (row_of m i) c.0 (0, 0) y (omega (arith, c.1, h)) ∙ sym (get_or-take b.looked (row_of m i) c.0 y l) ∙ c.2 in
+            subst (λ z. (z.0 ≡ x.job → ⊥) → offer t.step b.runner_up x ≤ offer t.step (natural (net_at t.prices z).net) x) there
+            (λ n. let o = f.others c.0 l n in
+            let u = natural-up (net_at t.prices (get_or (row_of m i) c.0 (0, 0))).net in
+            let w = net_is (worth_on (row_of m i) c.0) (price_at t (job_in (row_of m i) c.0)) in
+            let s = sides (net_at t.prices (get_or (row_of m i) c.0 (0, 0))).net in omega (arith, o, u, w, s)) ne;
       }
 
   found : (i : ℕ) (b : Bid) → standing_at t i ≡ Bidding b → ∥ Found t.prices (row_of m i) b ∥₁
@@ -287,7 +290,6 @@ module _ (m : Meaning) (sound : Sound m) (t : Tally) (law : Invariant m t) where
     slack = slack;
     left_out = left_out;
     unsold = law.consistent.unheld;
-    unmoved = unmoved;
     bid_is = bid_is;
     found = found;
     paid_is = paid_is;

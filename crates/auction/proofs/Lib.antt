@@ -19,7 +19,6 @@ pub mod Queues
 pub mod Steps
 pub mod Started
 pub mod CallsKeep
-pub mod Undisturbed
 pub mod Sequential
 pub mod Props
 pub mod Reaching

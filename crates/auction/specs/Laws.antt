@@ -1,5 +1,5 @@
 -- The laws of the auction, over pairings of carriers with jobs.
-use Rattle.std.specs.Prelude.{◌≡◌, ℕ, ◌+◌, ◌-◌, ◌*◌, ◌<◌, ◌≤◌, List, [], ◌∷◌, map, length, pos, ◌-ℤ◌, ◌<ℤ◌, Some, None, count_by, Option, ◌≢◌, slice_index_or, ◌↔◌}
+use Rattle.std.specs.Prelude.{◌≡◌, ℕ, ◌+◌, ◌-◌, ◌*◌, ◌<◌, ◌≤◌, List, [], ◌∷◌, map, length, take, pos, ◌-ℤ◌, ◌<ℤ◌, Some, None, count_by, Option, Contains, ◌≢◌, slice_index_or, ◌↔◌}
 use Rattle.sources.specs.Meaning.{Meaning, row_of, worth_in, worth_of}
 use Rattle.sources.specs.Layers.{times_of}
 use Rattle.auction.specs.declared.standing.Award.{Award}
@@ -63,7 +63,7 @@ bidding t = count_by is_bidding t.standings
 abbrev pub Among : Tally → List (Option ℕ) → Type 0
 Among t p = (i j : ℕ) → slice_index_or p i None ≡ Some j → ServedOrOut (standing_at t i)
 
--- A served carrier is told what its job is worth to it, and is within one step of its best net at the prices now, and of 0.
+-- Epsilon-complementary slackness, with the step as epsilon: a served carrier is told what its job is worth to it, and is within one step of its best net at the prices now, and of 0.
 pub record Slack (m : Meaning) (t : Tally) (i : ℕ) (h : Held) : Type 0 where
   pub worth_is : h.worth ≡ worth_of m i h.job
   pub of_none : price_at t h.job ≤ h.worth + t.step
@@ -79,8 +79,7 @@ pub record OpenBid (m : Meaning) (t : Tally) (i : ℕ) (b : Bid) (x : Best) : Ty
   -- It is judged stale only if the best job costs more now than when it was seen.
   pub stale_why : verdict_in t b ≡ Stale → seen < price_at t x.job
   -- Were the runner-up the net, at the prices now, of any other entry that was looked at, no less would be bid.
-  pub conservative : (k : ℕ) → k < b.looked → (slice_index_or (row_of m i) k (0, 0)).0 ≢ x.job →
-      offer t.step b.runner_up x ≤ offer t.step (natural (net_at t.prices (slice_index_or (row_of m i) k (0, 0))).net) x
+  pub conservative : (e : ℕ × ℕ) → Contains (take b.looked (row_of m i)) e → e.0 ≢ x.job → offer t.step b.runner_up x ≤ offer t.step (natural (net_at t.prices e).net) x
 
 pub record AuctionLaws (m : Meaning) (t : Tally) : Type 0 where
   -- What the hall gives is a pairing, and the total worth that it tells is that pairing's.
@@ -98,8 +97,6 @@ pub record AuctionLaws (m : Meaning) (t : Tally) : Type 0 where
   pub left_out : (i j : ℕ) → i < m.carriers → standing_at t i ≡ Out → worth_of m i j ≤ price_at t j
   -- A job that nobody holds costs nothing.
   pub unsold : (j : ℕ) → holder_at t j ≡ None → price_at t j ≡ 0
-  -- A bid is not stale if its best job costs what it cost when it was looked at.
-  pub unmoved : (i : ℕ) (b : Bid) (x : Best) → standing_at t i ≡ Bidding b → b.best ≡ Some x → pos x.worth -ℤ pos (price_at t x.job) ≡ x.net → verdict_in t b ≢ Stale
   -- A bid is the price seen plus the best net, minus the runner-up, plus the step.
   pub bid_is : (i : ℕ) (b : Bid) (x : Best) → standing_at t i ≡ Bidding b → b.best ≡ Some x → OpenBid m t i b x
   -- Its best and its runner-up are those of all the nets that it has seen, over all its looks, each at a price that has not fallen since.

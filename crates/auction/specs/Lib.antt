@@ -10,6 +10,5 @@ pub mod InOrder
 pub mod Calls
 pub mod MadeOf
 pub mod Laws
-pub mod Undisturbed
 pub mod Sequential
 pub mod Reached

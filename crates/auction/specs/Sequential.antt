@@ -1,4 +1,4 @@
--- The sequential auction, in which a carrier looks at its whole row at once and settles. A bid that no award came between is settled as it is there: no looks, no lanes, and no other bids.
+-- The sequential (Gauss-Seidel) auction: one carrier after the other looks at its whole row at once, and bids. No looks, no lanes, and no other bids. A bid that no award came between is settled as it is there.
 use Rattle.std.specs.Prelude.{◌≡◌, ℕ, ◌+◌, ◌-◌, false, List, ◌≤ℤ◌, ◌<ℤ◌, pos, Some, Ok}
 use Rattle.std.specs.List.{AllByRecursion}
 use Rattle.sources.specs.Meaning.{Meaning, row_of}
@@ -29,7 +29,7 @@ Sequential t row Out = AllByRecursion (λ z. z.net ≤ℤ pos 0) (nets_at t.pric
 Sequential t row Stale = ⊥
 Sequential t row (Awarded a) = BestAwarded t row a
 
--- After some calls, carrier i has no open bid. If the calls behind them start nothing anew and make no award, then carrier i is settled as in the sequential auction, at the prices then. The calls may be any, also those that a run is made of.
+-- After some calls, carrier i has no open bid. If the calls behind them start nothing anew and make no award, then carrier i is settled as in the sequential auction, at the prices then, and so is not stale. The calls may be any, also those that a run is made of.
 abbrev pub SettlesAlone : Meaning → Type 0
 SettlesAlone m =
     (before behind : List Call) (i : ℕ) (t t' : Tally) (v : Verdict) → tally_after m before ≡ Some t → is_bidding (standing_at t i) ≡ false →

@@ -11,7 +11,6 @@ use Rattle.auction.specs.Calls.{answer_to, tally_by, tally_from, answers_from}
 use Rattle.auction.specs.Reached.{Reached}
 use Rattle.auction.proofs.Reaching.{reached_from, reached_laws}
 use Rattle.auction.proofs.MadeOf.{runs_made}
-use Rattle.auction.proofs.Undisturbed.{never_stale}
 use Rattle.auction.proofs.Sequential.{settles_alone}
 use Rattle.auction.proofs.Started.{started_from}
 use Rattle.hall.specs.declared.books.Books.{Books}
@@ -52,7 +51,6 @@ all_performed m s o p h calls i before after l l' t a d =
       started = ap is_some t' ∙ started_from m o calls;
       lawful = λ first rest e. reached_laws m s (tally_from m o first) (reached_from m o first h);
       made = runs_made m s;
-      undisturbed = never_stale m s;
       sequential = settles_alone m s;
     }
 

@@ -8,7 +8,6 @@ use Rattle.auction.specs.Tally.{Tally}
 use Rattle.auction.specs.Calls.{tally_from, answers_from, has_start}
 use Rattle.auction.specs.Reached.{Lawful}
 use Rattle.auction.specs.MadeOf.{RunsMade}
-use Rattle.auction.specs.Undisturbed.{NeverStale}
 use Rattle.auction.specs.Sequential.{SettlesAlone}
 use Rattle.hall.specs.declared.books.Books.{Books}
 use Rattle.hall.specs.InBooks.{tally_of}
@@ -23,9 +22,7 @@ pub record Performed (m : Meaning) (calls : List Call) (before after : List (Res
   pub lawful : (first rest : List Call) → calls ≡ first ++ rest → Lawful m (tally_from m old first)
   -- Each run, of this list or another, is made of summonses, looks and settles that are accepted.
   pub made : RunsMade m
-  -- A bid that no award came between is never stale. Said of any list of calls, so also of one in which the summonses, looks and settles of a run stand in its place.
-  pub undisturbed : NeverStale m
-  -- And it is settled as in the sequential auction, in which a carrier looks at its whole row at once.
+  -- A bid that no award came between is settled as in the sequential auction, and so is never stale. Said of any list of calls, so also of one in which the acts of a run stand in its place.
   pub sequential : SettlesAlone m
 
 -- The same of a new hall, which had no tally, and of the books that it has then.
