@@ -14,7 +14,7 @@ use Rattle.auction.specs.Consistent.{Consistent}
 use Rattle.auction.specs.Runs.{RunState, first_acts, step_by, one_step, many_steps}
 use Rattle.auction.specs.InOrder.{InOrder, Ordered}
 use Rattle.auction.specs.Calls.{told, accepted, answer_to, tally_by, tally_from, answers_from}
-use Rattle.auction.specs.MadeOf.{act_call, calls_of, LeadsTo}
+use Rattle.auction.specs.MadeOf.{act_call, calls_of, LeadsTo, Midway}
 use Rattle.auction.proofs.Steps.{summon_taken, look_taken, settle_taken}
 
 -- What the carrier first in flight does.
@@ -123,23 +123,23 @@ module _ (m : Meaning) where
             led_on r (one_step m depth r) (many_steps m depth n (one_step m depth r)) (acts_made n (one_step m depth r)) (act_of r) (makes r h) (all_led n (one_step m depth r) (keeps r h))
 
         abbrev Points : ℕ → Type 0
-        Points n = (r : RunState) → R r → (first rest : List (Act × ℕ)) (t : Tally) → acts_made n r ≡ first ++ rest → LeadsTo m r.tally first t → Point t rest
+        Points n = (r : RunState) → R r → (first rest : List (Act × ℕ)) (t : Tally) → Midway m r.tally (acts_made n r) first rest t → Point t rest
 
         point_on : (n : ℕ) → Points n → (r : RunState) → R r → (a : Act × ℕ) (first rest : List (Act × ℕ)) (t : Tally) (o : Option (Act × ℕ)) → MakesIf r (one_step m depth r) o →
             option_to_list o ++ acts_made n (one_step m depth r) ≡ a ∷ (first ++ rest) → LeadsTo m r.tally (a ∷ first) t → Point t rest
         unfolding tally_from
-        point_on n next r h a first rest t None same e l = next r h (a ∷ first) rest t (ap (acts_made n) (sym same) ∙ e) l
+        point_on n next r h a first rest t None same e l = next r h (a ∷ first) rest t (ap (acts_made n) (sym same) ∙ e, l)
         point_on n next r h a first rest t (Some x) made e l =
             let same : x ≡ a = cc in
             let on : acts_made n (one_step m depth r) ≡ first ++ rest = cc in
-            next (one_step m depth r) (keeps r h) first rest t on
-            (ap (λ o. tally_from m o (calls_of first)) (sym made.led ∙ ap (λ y. tally_by m (Some r.tally) (act_call y.0 y.1)) same) ∙ l)
+            next (one_step m depth r) (keeps r h) first rest t
+            (on, ap (λ o. tally_from m o (calls_of first)) (sym made.led ∙ ap (λ y. tally_by m (Some r.tally) (act_call y.0 y.1)) same) ∙ l)
 
         pub at_point : (n : ℕ) → Points n
         unfolding tally_from
-        at_point n r h [] rest t e l = record { state = r; left = n; holds = h; here = (let s : Some r.tally ≡ Some t = l in cc); on = e }
-        at_point zero r h (a ∷ first) rest t e l = absurd (let s : length {A = Act × ℕ} [] ≡ length (a ∷ (first ++ rest)) = ap length e in omega (arith, s))
-        at_point (suc n) r h (a ∷ first) rest t e l = point_on n (at_point n) r h a first rest t (act_of r) (makes r h) e l
+        at_point n r h [] rest t w = record { state = r; left = n; holds = h; here = (let s : Some r.tally ≡ Some t = w.1 in cc); on = w.0 }
+        at_point zero r h (a ∷ first) rest t w = absurd (let s : length {A = Act × ℕ} [] ≡ length (a ∷ (first ++ rest)) = ap length w.0 in omega (arith, s))
+        at_point (suc n) r h (a ∷ first) rest t w = point_on n (at_point n) r h a first rest t (act_of r) (makes r h) w.0 w.1
 
         abbrev Nexts : ℕ → Type 0
         Nexts n = (r : RunState) → R r → (t : Tally) → r.tally ≡ t → (x : Act × ℕ) (rest : List (Act × ℕ)) → acts_made n r ≡ x ∷ rest → Next t x rest
@@ -154,5 +154,5 @@ module _ (m : Meaning) where
         next_of zero r h t here x rest e = absurd (let s : length {A = Act × ℕ} [] ≡ length (x ∷ rest) = ap length e in omega (arith, s))
         next_of (suc n) r h t here x rest e = next_on n (next_of n) r h t here x rest (act_of r) refl (makes r h) e
 
-        pub at_next : (n : ℕ) (r : RunState) → R r → (first rest : List (Act × ℕ)) (x : Act × ℕ) (t : Tally) → acts_made n r ≡ first ++ x ∷ rest → LeadsTo m r.tally first t → Next t x rest
-        at_next n r h first rest x t e l = let p = at_point n r h first (x ∷ rest) t e l in next_of p.left p.state p.holds t p.here x rest p.on
+        pub at_next : (n : ℕ) (r : RunState) → R r → (first rest : List (Act × ℕ)) (x : Act × ℕ) (t : Tally) → Midway m r.tally (acts_made n r) first (x ∷ rest) t → Next t x rest
+        at_next n r h first rest x t w = let p = at_point n r h first (x ∷ rest) t w in next_of p.left p.state p.holds t p.here x rest p.on

@@ -16,7 +16,7 @@ use Rattle.auction.specs.Bids.{best_worth}
 use Rattle.auction.specs.Rules.{bid_at, taken, counted, bids, called, carried_out, verdict_in, verdict_from, settle_answer, ended, settled}
 use Rattle.auction.specs.Runs.{RunState, in_flight, looks_for, first_acts, step_by, one_step, many_steps}
 use Rattle.auction.specs.InOrder.{times_in, Ordered}
-use Rattle.auction.specs.MadeOf.{round, LeadsTo, InRounds}
+use Rattle.auction.specs.MadeOf.{round, Midway, InRounds}
 use Rattle.auction.specs.Sequential.{Sequential}
 use Rattle.auction.proofs.Counted.{one}
 use Rattle.auction.proofs.Invariant.{Invariant}
@@ -221,10 +221,10 @@ module _ (m : Meaning) (sound : Sound m) where
     all_stales zero r a = refl
     all_stales (suc n) r a = all_stales n (one_step m 1 r) (step_alone r a) ∙ step_stales r a
 
-    settles_at : (n : ℕ) (r : RunState) → Alone r → (first rest : List (Act × ℕ)) (i : ℕ) (t : Tally) (v : Verdict) → acts_made m 1 n r ≡ first ++ rest → LeadsTo m r.tally first t →
+    settles_at : (n : ℕ) (r : RunState) → Alone r → (first rest : List (Act × ℕ)) (i : ℕ) (t : Tally) (v : Verdict) → Midway m r.tally (acts_made m 1 n r) first rest t →
         settle_answer i m (Some t) ≡ Ok v → Sequential t (row_of m i) v
-    settles_at n r a first rest i t v e l =
-        let p = at_point m 1 Alone step_alone (λ q h. h.invariant.consistent) (λ q h. h.ordered) n r a first rest t e l in
+    settles_at n r a first rest i t v w =
+        let p = at_point m 1 Alone step_alone (λ q h. h.invariant.consistent) (λ q h. h.ordered) n r a first rest t w in
         subst (λ z. settle_answer i m (Some z) ≡ Ok v → Sequential z (row_of m i) v) p.here (settles_so p.state p.holds i v)
 
   pub in_rounds : (n : ℕ) (r : RunState) → Alone r.tally.lanes r → length r.flight ≤ 0 → InRounds m r.tally (acts_made m 1 n r)
@@ -233,7 +233,7 @@ module _ (m : Meaning) (sound : Sound m) where
         carriers = h.carriers;
         cut_off = h.cut_off;
         rounds = h.rounds ∙ ap (λ z. z ++ flat_map (round m r.tally.lanes) h.carriers) (nothing r.flight l);
-        settles = λ first rest i t v e. settles_at r.tally.lanes n r a first ((Settle, i) ∷ rest) i t v e;
+        settles = λ first rest i t v. settles_at r.tally.lanes n r a first ((Settle, i) ∷ rest) i t v;
       }
     where
       nothing : (flight : List InFlight) → length flight ≤ 0 → owed r.tally.lanes flight ≡ []

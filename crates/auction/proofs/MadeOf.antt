@@ -1,5 +1,5 @@
 -- A run is made of as many accepted summonses, looks and settles as it makes steps; the depth keeps them narrow, and the line in turn.
-use Rattle.std.proofs.Common.{◌≡◌, ℕ, zero, suc, ◌<◌, ◌≤◌, max, Bool, true, false, ltb, ◌≢◌, List, [], ◌∷◌, ◌++◌, length, Some, None, Ok, Err, Result, sym, refl, ap, ◌∙◌, subst, ⊎_elim, append_assoc, arith}
+use Rattle.std.proofs.Common.{◌≡◌, ℕ, zero, suc, ◌<◌, ◌≤◌, max, Bool, true, false, ltb, ◌≢◌, List, [], ◌∷◌, ◌++◌, length, Some, Ok, Err, Result, sym, refl, ap, ◌∙◌, subst, ⊎_elim, arith}
 use Rattle.std.specs.Prelude.{◌↔◌}
 use Rattle.std.proofs.lemmas.Bool.{cases_Bool, cond-true, cond-false, false≢true, ltb-true, ltb-false}
 use mathlib.Core.Logic.{∥∥₁_elim}
@@ -16,7 +16,7 @@ use Rattle.auction.specs.Consistent.{Consistent}
 use Rattle.auction.specs.Runs.{RunState, beginning, one_step, many_steps, run_report, run_answer, run_tally, ran}
 use Rattle.auction.specs.InOrder.{Ordered}
 use Rattle.auction.specs.Laws.{waiting, bidding}
-use Rattle.auction.specs.MadeOf.{LeadsTo, is_ready, Acted, InRounds, MadeOf, RunsMade}
+use Rattle.auction.specs.MadeOf.{Midway, is_ready, Acted, InRounds, MadeOf, RunsMade}
 use Rattle.auction.specs.Reached.{Reached}
 use Rattle.auction.proofs.Invariant.{Invariant}
 use Rattle.auction.proofs.Props.{invariant_prop}
@@ -74,36 +74,36 @@ module _ (m : Meaning) (sound : Sound m) (depth : ℕ) where
     abbrev made : List (Act × ℕ)
     made = acts_made m depth budget from
 
-    point : (first rest : List (Act × ℕ)) (u : Tally) → made ≡ first ++ rest → LeadsTo m t first u → Point m depth (Within most) u rest
+    point : (first rest : List (Act × ℕ)) (u : Tally) → Midway m t made first rest u → Point m depth (Within most) u rest
     unfolding beginning
-    point first rest u e l = at_point m depth (Within most) (step_within most (omega arith)) (λ r h. h.consistent) (λ r h. h.ordered) budget from begins first rest u e l
+    point first rest u w = at_point m depth (Within most) (step_within most (omega arith)) (λ r h. h.consistent) (λ r h. h.ordered) budget from begins first rest u w
 
-    next : (first rest : List (Act × ℕ)) (x : Act × ℕ) (u : Tally) → made ≡ first ++ x ∷ rest → LeadsTo m t first u → Next m depth (Within most) u x rest
+    next : (first rest : List (Act × ℕ)) (x : Act × ℕ) (u : Tally) → Midway m t made first (x ∷ rest) u → Next m depth (Within most) u x rest
     unfolding beginning
-    next first rest x u e l = at_next m depth (Within most) (step_within most (omega arith)) (λ r h. h.consistent) (λ r h. h.ordered) budget from begins first rest x u e l
+    next first rest x u w = at_next m depth (Within most) (step_within most (omega arith)) (λ r h. h.consistent) (λ r h. h.ordered) budget from begins first rest x u w
 
-    is_narrow : (first rest : List (Act × ℕ)) (u : Tally) → made ≡ first ++ rest → LeadsTo m t first u → bidding u ≤ most
-    is_narrow first rest u e l =
-        let p = point first rest u e l in subst (λ z. bidding z ≤ most) p.here (omega (arith, flight_length m p.state p.holds.ordered, p.holds.few))
+    is_narrow : (first rest : List (Act × ℕ)) (u : Tally) → Midway m t made first rest u → bidding u ≤ most
+    is_narrow first rest u w =
+        let p = point first rest u w in subst (λ z. bidding z ≤ most) p.here (omega (arith, flight_length m p.state p.holds.ordered, p.holds.few))
 
-    fills_up : (first rest : List (Act × ℕ)) (x : Act × ℕ) (u : Tally) → made ≡ first ++ x ∷ rest → LeadsTo m t first u → (x.0 ≡ Summon) ↔ ((0 < waiting u) × (bidding u < depth))
-    fills_up first rest x u e l =
-        let p = next first rest x u e l in
+    fills_up : (first rest : List (Act × ℕ)) (x : Act × ℕ) (u : Tally) → Midway m t made first (x ∷ rest) u → (x.0 ≡ Summon) ↔ ((0 < waiting u) × (bidding u < depth))
+    fills_up first rest x u w =
+        let p = next first rest x u w in
         subst (λ z. (x.0 ≡ Summon) ↔ ((0 < waiting z) × (bidding z < depth))) p.here
         (subst (λ n. (x.0 ≡ Summon) ↔ ((0 < n) × (bidding p.state.tally < depth))) (line_length m p.state p.holds.ordered)
         (subst (λ n. (x.0 ≡ Summon) ↔ ((0 < length p.state.line) × (n < depth))) (flight_length m p.state p.holds.ordered)
         (fills_by depth (ltb (length p.state.flight) depth) p.state.line p.state.flight refl x p.next)))
 
-    goes_in_turn : (first mid rest : List (Act × ℕ)) (a : Act) (i k : ℕ) (u : Tally) → made ≡ first ++ mid ++ (a, k) ∷ rest → LeadsTo m t first u →
+    goes_in_turn : (first mid rest : List (Act × ℕ)) (a : Act) (i k : ℕ) (u : Tally) → Midway m t made first (mid ++ (a, k) ∷ rest) u →
         is_ready a (standing_at u i) ≡ true → is_ready a (standing_at u k) ≡ false → Acted mid i
-    goes_in_turn first mid rest a i k u e l ready unready =
-        let p = point first (mid ++ (a, k) ∷ rest) u (e ∙ append_assoc first mid ((a, k) ∷ rest)) l in
+    goes_in_turn first mid rest a i k u w ready unready =
+        let p = point first (mid ++ (a, k) ∷ rest) u w in
         ready_before m depth p.left i k mid rest p.state p.holds.ordered a (ap (λ z. is_ready a (standing_at z i)) p.here ∙ ready) (ap (λ z. is_ready a (standing_at z k)) p.here ∙ unready) p.on
 
-    goes_round : (first mid rest : List (Act × ℕ)) (a : Act) (i k : ℕ) (u : Tally) → made ≡ first ++ (Look, k) ∷ mid ++ (a, k) ∷ rest → LeadsTo m t first u →
+    goes_round : (first mid rest : List (Act × ℕ)) (a : Act) (i k : ℕ) (u : Tally) → Midway m t made first ((Look, k) ∷ mid ++ (a, k) ∷ rest) u →
         a ≢ Summon → i ≢ k → is_bidding (standing_at u i) ≡ true → Acted mid i
-    goes_round first mid rest a i k u e l other apart bids =
-        let p = next first (mid ++ (a, k) ∷ rest) (Look, k) u (e ∙ append_assoc first ((Look, k) ∷ mid) ((a, k) ∷ rest)) l in
+    goes_round first mid rest a i k u w other apart bids =
+        let p = next first (mid ++ (a, k) ∷ rest) (Look, k) u w in
         looks_round m depth p.left i k mid rest p.state p.holds.ordered apart (ap (λ z. is_bidding (standing_at z i)) p.here ∙ bids) p.next a other p.on
 
     goes_ascending : (first rest : List (Act × ℕ)) (a : Act) (i k : ℕ) → made ≡ first ++ (a, k) ∷ rest → i < k →

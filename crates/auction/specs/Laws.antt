@@ -63,7 +63,7 @@ bidding t = count_by is_bidding t.standings
 abbrev pub Among : Tally → List (Option ℕ) → Type 0
 Among t p = (i j : ℕ) → slice_index_or p i None ≡ Some j → ServedOrOut (standing_at t i)
 
--- Epsilon-complementary slackness, with the step as epsilon: a served carrier is told what its job is worth to it, and is within one step of its best net at the prices now, and of 0.
+-- Epsilon-complementary slackness, the step being epsilon: a served carrier is told what its job is worth to it, and is within one step of its best net at the prices now, and of 0.
 pub record Slack (m : Meaning) (t : Tally) (i : ℕ) (h : Held) : Type 0 where
   pub worth_is : h.worth ≡ worth_of m i h.job
   pub of_none : price_at t h.job ≤ h.worth + t.step
@@ -79,7 +79,8 @@ pub record OpenBid (m : Meaning) (t : Tally) (i : ℕ) (b : Bid) (x : Best) : Ty
   -- It is judged stale only if the best job costs more now than when it was seen.
   pub stale_why : verdict_in t b ≡ Stale → seen < price_at t x.job
   -- Were the runner-up the net, at the prices now, of any other entry that was looked at, no less would be bid.
-  pub conservative : (e : ℕ × ℕ) → Contains (take b.looked (row_of m i)) e → e.0 ≢ x.job → offer t.step b.runner_up x ≤ offer t.step (natural (net_at t.prices e).net) x
+  pub conservative : (e : ℕ × ℕ) → Contains (take b.looked (row_of m i)) e → e.0 ≢ x.job →
+      offer t.step b.runner_up x ≤ offer t.step (natural (net_at t.prices e).net) x
 
 pub record AuctionLaws (m : Meaning) (t : Tally) : Type 0 where
   -- What the hall gives is a pairing, and the total worth that it tells is that pairing's.

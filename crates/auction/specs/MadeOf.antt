@@ -29,6 +29,10 @@ calls_of acts = map (λ a. act_call a.0 a.1) acts
 abbrev pub LeadsTo : Meaning → Tally → List (Act × ℕ) → Tally → Type 0
 LeadsTo m before acts after = tally_from m (Some before) (calls_of acts) ≡ Some after
 
+-- Where the first of the acts have led to the tally t, and the rest are left.
+abbrev pub Midway : Meaning → Tally → List (Act × ℕ) → List (Act × ℕ) → List (Act × ℕ) → Tally → Type 0
+Midway m before acts first rest t = (acts ≡ first ++ rest) × LeadsTo m before first t
+
 -- Who waits is ready to be summoned, and who bids to look or to settle.
 abbrev pub is_ready : Act → Standing → Bool
 is_ready Summons s = is_waiting s
@@ -49,7 +53,7 @@ pub record InRounds (m : Meaning) (before : Tally) (acts : List (Act × ℕ)) : 
   pub carriers : List ℕ
   pub cut_off : List (Act × ℕ)
   pub rounds : acts ++ cut_off ≡ flat_map (round m before.lanes) carriers
-  pub settles : (first rest : List (Act × ℕ)) (i : ℕ) (t : Tally) (v : Verdict) → acts ≡ first ++ (Settles, i) ∷ rest → LeadsTo m before first t →
+  pub settles : (first rest : List (Act × ℕ)) (i : ℕ) (t : Tally) (v : Verdict) → Midway m before acts first ((Settles, i) ∷ rest) t →
       settle_answer i m (Some t) ≡ Ok v → Sequential t (row_of m i) v
 
 -- A run is as many summonses, looks and settles, each accepted, as it tells steps, and they lead to the tally after it.
@@ -60,16 +64,18 @@ pub record MadeOf (m : Meaning) (depth : ℕ) (before after : Tally) (p : Report
   pub accepted : AllByRecursion (λ r. is_ok r ≡ true) (answers_from m (Some before) (calls_of acts))
   pub led : LeadsTo m before acts after
   -- At no point are more bids open than the depth, or than before the run.
-  pub narrow : (first rest : List (Act × ℕ)) (t : Tally) → acts ≡ first ++ rest → LeadsTo m before first t → bidding t ≤ max depth (bidding before)
+  pub narrow : (first rest : List (Act × ℕ)) (t : Tally) → Midway m before acts first rest t → bidding t ≤ max depth (bidding before)
   -- The next act is a summons exactly if somebody waits and fewer bids than the depth are open.
-  pub fills : (first rest : List (Act × ℕ)) (x : Act × ℕ) (t : Tally) → acts ≡ first ++ x ∷ rest → LeadsTo m before first t →
+  pub fills : (first rest : List (Act × ℕ)) (x : Act × ℕ) (t : Tally) → Midway m before acts first (x ∷ rest) t →
       (x.0 ≡ Summons) ↔ ((0 < waiting t) × (bidding t < depth))
-  -- First in, first out: whoever is ready for an act acts before whoever is not ready for it yet. So nobody overtakes a waiting carrier twice.
-  pub in_turn : (first between rest : List (Act × ℕ)) (a : Act) (i k : ℕ) (t : Tally) → acts ≡ first ++ between ++ (a, k) ∷ rest → LeadsTo m before first t →
+  -- First in, first out: who is ready for an act acts before who is not ready for it yet. So nobody overtakes a waiting carrier twice.
+  pub in_turn : (first between rest : List (Act × ℕ)) (a : Act) (i k : ℕ) (t : Tally) →
+      Midway m before acts first (between ++ (a, k) ∷ rest) t →
       is_ready a (standing_at t i) ≡ true → is_ready a (standing_at t k) ≡ false → Acted between i
   -- Round robin: who has looked does not look again or settle before everybody else who bids has acted.
-  pub round_robin : (first between rest : List (Act × ℕ)) (a : Act) (i k : ℕ) (t : Tally) → acts ≡ first ++ (Looks, k) ∷ between ++ (a, k) ∷ rest →
-      LeadsTo m before first t → a ≢ Summons → i ≢ k → is_bidding (standing_at t i) ≡ true → Acted between i
+  pub round_robin : (first between rest : List (Act × ℕ)) (a : Act) (i k : ℕ) (t : Tally) →
+      Midway m before acts first ((Looks, k) ∷ between ++ (a, k) ∷ rest) t →
+      a ≢ Summons → i ≢ k → is_bidding (standing_at t i) ≡ true → Acted between i
   -- Those who are ready at the beginning act in the order of their numbers.
   pub ascending : (first rest : List (Act × ℕ)) (a : Act) (i k : ℕ) → acts ≡ first ++ (a, k) ∷ rest → i < k →
       is_ready a (standing_at before i) ≡ true → is_ready a (standing_at before k) ≡ true → Acted first i
