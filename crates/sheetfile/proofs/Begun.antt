@@ -1,9 +1,9 @@
 -- A sheet file that is read in part: what was read of it, and what is left.
-use Rattle.std.proofs.Common.{◌≡◌, ℕ, ◌+◌, ◌<◌, ◌≤◌, true, List, [], ◌∷◌, ◌++◌, length, get_or, drop, is_ok, Ok, Err, Result, sym, refl, ap, ◌∙◌, subst, arith, w8, Fits}
+use Rattle.std.proofs.Common.{◌≡◌, ℕ, ◌+◌, ◌<◌, ◌≤◌, true, List, [], ◌∷◌, ◌++◌, length, get_or, take, drop, is_ok, Ok, Err, Result, sym, refl, ap, ◌∙◌, subst, arith, w8, Fits}
 use Rattle.std.proofs.ByRecursion.{All-append, All-get_or}
 use Rattle.std.proofs.Math.Logic.{∥∥₁_elim, ∥∥₁_map}
 use Rattle.std.proofs.Props.{props}
-use Rattle.std.proofs.lemmas.List.{append_assoc, append-nil, flat_map_more, get_or_at, length-append, length_push, nil_from_length}
+use Rattle.std.proofs.lemmas.List.{append_assoc, append-nil, flat_map_more, get_or_at, length-append, length_push, nil_from_length, take_at}
 use Rattle.std.specs.List.{flat_map, AllByRecursion}
 use Rattle.numbers.specs.Groups.{encoded}
 use Rattle.refusals.specs.Faults.{fault_of}
@@ -66,6 +66,9 @@ module _ (bs : List ℕ) (h : Heading) (at n used : ℕ) where
           begin_alike bs h (limits h b.limited) f.0 b.rows m.rows (drop at bs) (encoded (entries_in m.rows)) good (subst (λ x. AllByRecursion (RowIn x 0) m.rows) (sym f.3) all.good)
           (omega (arith, b.few, b.sound.counted, all.counted, ap (λ (x : Heading). x.carriers) f.3)) f.1 f.2
 
+      used_there : used ≡ entries_in (take n m.rows)
+      used_there = sym (ap entries_in (ap (take n) left.1 ∙ take_at b.rows left.0 n b.sound.counted) ∙ b.entries)
+
       next_there : n < m.carriers → (next : ℕ) × (row_from bs h at ≡ Ok (row_of m n, next))
       next_there inside =
           let k = left in
@@ -123,6 +126,9 @@ module _ (bs : List ℕ) (h : Heading) (at n used : ℕ) where
   module _ (b : ∥ Begun bs at h n used ∥₁) where
     pub told_heading : (m : Meaning) → SheetFile bs m → h ≡ heading_of m
     told_heading m file = ∥∥₁_elim b (hlevel props) (λ b. (fronts b m file).3)
+
+    pub told_used : (m : Meaning) → SheetFile bs m → used ≡ entries_in (take n m.rows)
+    told_used m file = ∥∥₁_elim b (hlevel props) (λ b. used_there b m file)
 
     pub told_next : (m : Meaning) → SheetFile bs m → n < m.carriers → (next : ℕ) × (row_from bs h at ≡ Ok (row_of m n, next))
     told_next m file inside =

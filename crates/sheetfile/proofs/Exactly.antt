@@ -13,10 +13,12 @@ use Rattle.sheetfile.specs.Layout.{Row, SheetFile}
 use Rattle.sheetfile.specs.Reading.{closed_at}
 use Rattle.sheetfile.specs.States.{ClosesExactly, ReadsInOrder, Stand, closed_by, closing, entries_after_row, next_row, stand, starts_after_row}
 use Rattle.sheetfile.specs.Steps.{updated, without_value}
+use Rattle.sheetfile.specs.Tables.{HoldsRows, sheet_in}
 use Rattle.sheetfile.specs.declared.loader.Closed.{Closed}
 use Rattle.sheetfile.specs.declared.loader.Headed.{Headed}
 use Rattle.sheetfile.specs.declared.loader.Refused.{Refused}
-use Rattle.sheetfile.proofs.Begun.{told_end, told_file, told_heading, told_next}
+use Rattle.sheetfile.proofs.Begun.{told_end, told_file, told_heading, told_next, told_used}
+use Rattle.sheetfile.proofs.Held.{holds_all, holds_more}
 use Rattle.sheetfile.proofs.Steps.{err_not_ok, ok_same}
 use Rattle.sheetfile.proofs.Tables.{row_accepted, row_accepts, updated_ok}
 
@@ -47,8 +49,18 @@ module _ (l : Stand) (begun : ∥ Begun l.reader.bytes.now l.reader.at l.heading
         es ∙ sym (updated_ok v x.0 entries (entries_after_row l entries) x.1) ∙ ap (λ row. entries_after_row l entries (row, 0)) same,
       )
 
+  held : r ≡ Ok tt → HoldsRows m l.rows starts entries → HoldsRows m (l.rows + 1) starts' entries'
+  held ok holds =
+      let v = next_row l (length starts) (length entries) in
+      let x = valued v (sym told ∙ ok) in
+      let a = row_accepted l (length starts) (length entries) x.0 x.1 in
+      let h = told_heading l.reader.bytes.now l.heading l.reader.at l.rows l.used begun m file in
+      let used = told_used l.reader.bytes.now l.heading l.reader.at l.rows l.used begun m file in
+      let more = holds_more m l.rows starts entries holds l.used (omega (arith, a.3, ap (λ (x : Heading). x.carriers) h, file.bounded.sound.counted)) used a.2 in
+      subst (λ z. HoldsRows m (l.rows + 1) z entries') (sym (row ok).0) (subst (λ z. HoldsRows m (l.rows + 1) (set starts (l.rows + 1) (l.used + length (row_of m l.rows))) z) (sym (row ok).1) more)
+
   pub reads_in_order : ReadsInOrder m l starts entries r starts' entries'
-  reads_in_order = record { every = every; row = row }
+  reads_in_order = record { every = every; row = row; held = held }
 
 module _ (l : Headed) where
   closed_file : (q : Result (Unit {0}) Fault) → closing (stand l) ≡ q → IfOk (closed_by l q) (λ c. (m : Meaning) × SheetFile l.reader.bytes.now m × (l.rows ≡ m.carriers) × (c.heading ≡ heading_of m))
@@ -60,6 +72,16 @@ module _ (l : Headed) where
       (sym (cond-false (ltb l.rows l.heading.carriers) (Err (fault_of RowsMissing)) (closed_at l.reader.bytes.now l.used l.reader.at) (le-ltb l.rows l.heading.carriers last)) ∙ is))
       (cases_lt l.rows l.heading.carriers)
 
+  closed_filled : (m : Meaning) (starts : List ℕ) (entries : List Entry) → SheetFile l.reader.bytes.now m → HoldsRows m l.rows starts entries → (q : Result (Unit {0}) Fault) → closing (stand l) ≡ q →
+      IfOk (closed_by l q) (λ c. sheet_in c.heading starts entries ≡ Ok m)
+  closed_filled m starts entries file holds (Err e) is = tt
+  closed_filled m starts entries file holds (Ok tt) is =
+      let f = closed_file (Ok tt) is in
+      let b = l.begun in
+      let h = told_heading l.reader.bytes.now l.heading l.reader.at l.rows l.used b m file in
+      let all : l.rows ≡ m.carriers = f.2 ∙ ap (λ (x : Heading). x.carriers) (sym f.3 ∙ h) in
+      ap (λ (x : Heading). sheet_in x starts entries) h ∙ holds_all m l.rows starts entries holds file.bounded all
+
   pub closes_exactly : (r : Result Closed (Refused Headed)) → r ≡ closed_by l (closing (stand l)) → ClosesExactly l.reader.bytes.now l.rows r
   closes_exactly r told = record {
     every = λ m file last.
@@ -69,4 +91,5 @@ module _ (l : Headed) where
         ∙ told_end l.reader.bytes.now l.heading l.reader.at l.rows l.used l.begun m file last in
         subst (λ q. IsOkAnd q (λ c. c.heading ≡ heading_of m)) (sym (told ∙ ap (closed_by l) closes)) h;
     only = subst (λ q. IfOk q (λ c. (m : Meaning) × SheetFile l.reader.bytes.now m × (l.rows ≡ m.carriers) × (c.heading ≡ heading_of m))) (sym told) (closed_file (closing (stand l)) refl);
+    filled = λ m starts entries file holds. subst (λ q. IfOk q (λ c. sheet_in c.heading starts entries ≡ Ok m)) (sym told) (closed_filled m starts entries file holds (closing (stand l)) refl);
   }

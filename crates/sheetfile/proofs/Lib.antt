@@ -8,10 +8,11 @@ pub mod Overs
 pub mod Readers
 pub mod Loading
 pub mod Begun
+pub mod Once
+pub mod Held
 pub mod Exactly
 pub mod Writing
 pub mod Again
 pub mod Filling
 pub mod Known
 pub mod Small
-pub mod Once

@@ -33,7 +33,7 @@ starts_push starts i end rows row before is inside =
     let e : end ≡ 0 + entries_in rows + length row = omega (arith, is) in
     take_more_set starts (i + 1) end inside ∙ ap (λ l. l ++ end ∷ []) before ∙ ap (λ n. 0 ∷ (ends_of 0 rows ++ n ∷ [])) e ∙ sym (ap (λ l. 0 ∷ l) (ends_push 0 rows row))
 
-entries_push_row : (rows : List Row) (row : Row) → entries_of (rows ++ row ∷ []) ≡ entries_of rows ++ map entry_of row
+pub entries_push_row : (rows : List Row) (row : Row) → entries_of (rows ++ row ∷ []) ≡ entries_of rows ++ map entry_of row
 entries_push_row [] row = append-nil (map entry_of row)
 entries_push_row (r ∷ rows) row = ap (λ l. map entry_of r ++ l) (entries_push_row rows row) ∙ sym (append_assoc (map entry_of r) (entries_of rows) (map entry_of row))
 

@@ -10,6 +10,7 @@ use Rattle.sources.specs.declared.form.Heading.{Heading}
 use Rattle.sheetfile.specs.Layout.{Row, SheetFile}
 use Rattle.sheetfile.specs.Reading.{closed_at, row_in}
 use Rattle.sheetfile.specs.Steps.{and_then, room_for}
+use Rattle.sheetfile.specs.Tables.{HoldsRows, sheet_in}
 use Rattle.numbers.specs.Writing.{over}
 use Rattle.sheetfile.specs.declared.loader.Bare.{Bare}
 use Rattle.sheetfile.specs.declared.loader.Closed.{Closed}
@@ -68,13 +69,16 @@ closed_by l (Ok u) = Ok (record { heading = l.heading })
 
 -- ---- What a loader makes of a sheet file.
 
--- The rows are read in order: the next one, where the tables have room for it, and they then hold it behind those before
--- it.
+-- The rows are read in order: the next one, where the tables have room for it. They then hold it behind those before it, and so
+-- one row more than they held.
 pub record ReadsInOrder (m : Meaning) (l : Stand) (starts : List ℕ) (entries : List Entry) (r : Result (Unit {0}) Fault) (starts' : List ℕ) (entries' : List Entry) : Type 0 where
   pub every : l.rows < m.carriers → l.rows + 2 ≤ length starts → length (row_of m l.rows) ≤ length entries - l.used → r ≡ Ok tt
   pub row : r ≡ Ok tt → (starts' ≡ slice_set starts (l.rows + 1) (l.used + length (row_of m l.rows))) × (entries' ≡ over entries l.used (map entry_of (row_of m l.rows)))
+  pub held : r ≡ Ok tt → HoldsRows m l.rows starts entries → HoldsRows m (l.rows + 1) starts' entries'
 
--- A loader closes exactly behind all rows of a sheet file, and tells its heading.
+-- A loader closes exactly behind all rows of a sheet file, and tells its heading. The sheet over tables that hold these rows is then
+-- accepted, and means the file.
 pub record ClosesExactly (bytes : List ℕ) (rows : ℕ) (r : Result Closed (Refused Headed)) : Type 0 where
   pub every : (m : Meaning) → SheetFile bytes m → rows ≡ m.carriers → IsOkAnd r (λ c. c.heading ≡ heading_of m)
   pub only : IfOk r (λ c. (m : Meaning) × SheetFile bytes m × (rows ≡ m.carriers) × (c.heading ≡ heading_of m))
+  pub filled : (m : Meaning) (starts : List ℕ) (entries : List Entry) → SheetFile bytes m → HoldsRows m rows starts entries → IfOk r (λ c. sheet_in c.heading starts entries ≡ Ok m)

@@ -9,7 +9,7 @@ use Rattle.sources.specs.Sheets.{fill_verdict, sheet_of}
 use Rattle.sources.specs.Tables.{entries_of, entry_of, heading_of, starts_of}
 use Rattle.sources.specs.declared.form.Entry.{Entry}
 use Rattle.sources.specs.declared.form.Heading.{Heading}
-use Rattle.sheetfile.specs.Layout.{Row}
+use Rattle.sheetfile.specs.Layout.{Row, entries_in}
 use Rattle.sheetfile.specs.Reading.{loaded}
 use Rattle.sheetfile.specs.Steps.{updated}
 
@@ -43,3 +43,8 @@ BeginsWith table row = take (length row) table ≡ take (length table) (map entr
 abbrev pub HoldsRow : Result (Row × ℕ) Fault → List Entry → Type 0
 HoldsRow (Err e) table = Unit {0}
 HoldsRow (Ok (row, at)) table = BeginsWith table row
+
+-- The tables begin with the first k rows of a meaning: where each of them starts and the last one ends, and the entries of all.
+pub record HoldsRows (m : Meaning) (k : ℕ) (starts : List ℕ) (entries : List Entry) : Type 0 where
+  pub starting : take (k + 1) starts ≡ starts_of (take k m.rows)
+  pub listing : take (entries_in (take k m.rows)) entries ≡ entries_of (take k m.rows)

@@ -1,14 +1,15 @@
 // A loader that passes through three states, each a type of its own: bare, headed, closed. The tables are lent to each call.
-ghost use Rattle.std.specs.Prelude.{◌≡◌, ℕ, ◌+◌, ◌<◌, ◌≤◌, true, is_ok, IsOkAnd, length, slice_index, slice_set, Ok};
+ghost use Rattle.std.specs.Prelude.{◌≡◌, ℕ, ◌+◌, ◌<◌, ◌≤◌, List, true, is_ok, IfOk, IsOkAnd, length, slice_index, slice_set, Ok};
 ghost use Rattle.std.specs.Result.{result_map_both};
 ghost use Rattle.sheetfile.specs.Begun.{Begun};
 ghost use Rattle.sheetfile.specs.Layout.{SheetFile};
 ghost use Rattle.sheetfile.specs.Readers.{value_of};
 ghost use Rattle.sheetfile.specs.Reading.{heading_in};
 ghost use Rattle.sheetfile.specs.Steps.{updated, without_value};
-ghost use Rattle.sheetfile.specs.Tables.{row_count};
+ghost use Rattle.sheetfile.specs.Tables.{HoldsRows, row_count};
 ghost use Rattle.sources.specs.Meaning.{Meaning};
 ghost use Rattle.sources.specs.Tables.{heading_of};
+ghost use Rattle.sources.specs.declared.form.Entry.{Entry};
 
 use crate::parts::Reader;
 use refusals::{Fault, Refusal};
@@ -68,6 +69,7 @@ impl<'a> Bare<'a> {
         ensures answer { result_map_both stand (λ e. e) result ≡ headed_by self.entry (heading_in self.entry.bytes.now (length starts.old)) }
         ensures starts { starts.new ≡ updated (heading_in self.entry.bytes.now (length starts.old)) starts.old (λ _. slice_set starts.old 0 0) }
         ensures every { (m : Meaning) → SheetFile self.entry.bytes.now m → m.carriers + 1 ≤ length starts.old → IsOkAnd result (λ l. l.heading ≡ heading_of m) }
+        ensures held { IfOk result (λ _. (m : Meaning) (entries : List Entry) → HoldsRows m 0 starts.new entries) }
     {
         let mut reader = Reader::new(self.bytes);
         // By match: the closure of a map_err moves the loader, and would need a contract of its own.
