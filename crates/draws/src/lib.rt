@@ -2,6 +2,7 @@
 #![tactic(auto)]
 
 ghost use Rattle.std.specs.Prelude.{◌≡◌, ◌<◌, max};
+ghost use Rattle.draws.specs.Xorshift.{drawn, next};
 
 #[derive(Drop)]
 pub struct Draw {
@@ -16,13 +17,24 @@ impl Draw {
         Draw { state: seed.max(1) }
     }
 
-    // A number below a bound; 0 where the bound is 0. Which one it is, is left open.
+    // A number below a bound; 0 where the bound is 0.
     pub fn below(&mut self, bound: u64) -> u64
-        ensures { result < max bound 1 }
+        ensures value { result ≡ drawn bound self.new.state }
+        ensures state { self.new.state ≡ next self.old.state }
+        ensures below { result < max bound 1 }
     {
-        self.state ^= self.state << 13;
-        self.state ^= self.state >> 7;
-        self.state ^= self.state << 17;
+        self.state = next_state(self.state);
         self.state % bound.max(1)
     }
+}
+
+// One step of xorshift.
+#[tactic(auto, unfolding(crate::specs::Xorshift::next))]
+fn next_state(state: u64) -> u64
+    ensures { result ≡ next state }
+{
+    let mut x = state;
+    x ^= x << 13;
+    x ^= x >> 7;
+    x ^ (x << 17)
 }
