@@ -1,7 +1,7 @@
 -- The two calls: what they answer, what they lead to, and that the pairing is then worth most.
-use Rattle.std.proofs.Common.{◌≡◌, ℕ, ◌+◌, ◌*◌, ◌^◌, ◌<◌, min, Bool, true, false, cond, ltb, ◌≢◌, List, [], length, get_or, take, drop, set, Some, None, Ok, Err, Option, Result, sym, refl, ap, ◌∙◌, subst, ⊎_elim, mul-zero, arith, below_more}
+use Rattle.std.proofs.Common.{◌≡◌, ℕ, ◌+◌, ◌*◌, ◌^◌, ◌<◌, min, Bool, true, false, cond, ltb, ◌≢◌, List, [], length, get_or, set, Some, None, Ok, Err, Option, Result, sym, refl, ap, ◌∙◌, subst, ⊎_elim, mul-zero, arith, below_more}
 use Rattle.std.proofs.ByRecursion.{All-get_or}
-use Rattle.std.proofs.lemmas.List.{ext_get_or, get_or_past, get_or-set_other, get_or-set_same, length-map, take_at}
+use Rattle.std.proofs.lemmas.List.{ext_get_or, get_or_past, get_or-set_other, get_or-set_same, length-map}
 use Rattle.std.proofs.lemmas.Bool.{cases_lt, cond_both, cond-true, lt-ltb}
 use Rattle.refusals.specs.declared.Refusal.{Refusal}
 use Rattle.refusals.specs.declared.Refusal.TheVariants.{CountsOutside, NoSuchCarrier}
@@ -26,9 +26,8 @@ use Rattle.auction.proofs.Steps.{steps_hold}
 use Rattle.hall.specs.declared.books.Books.{Books}
 use Rattle.hall.specs.InBooks.{tally_of}
 use Rattle.hall.specs.Replayed.{Performed, Replayed}
-use Rattle.numbers.specs.Writing.{over}
 use Rattle.pairing.specs.Listing.{listing}
-use Rattle.pairing.specs.Pairs.{Ends, ListsPairs, PairsWell, auctioned, timed, two_calls}
+use Rattle.pairing.specs.Pairs.{Ends, ListsPairs, PairsWell, auctioned, listing_after, timed, two_calls}
 
 -- ---- the step stays
 
@@ -162,19 +161,15 @@ noted_more ss i s f inside is each =
 pub ok_same : {A : Type 0} (x y : A) → ◌≡◌ {A = Result A Refusal} (Ok x) (Ok y) → x ≡ y
 ok_same x y e = cc
 
--- a listing that was put is that of the tally that the auction ends with
-pub lists_well : (m : Meaning) (ss : List Standing) (c : Counts) (k n : ℕ) (out new : List ℕ) → Ends (auctioned m) (Ok c) ss → PairsWell m → k ≡ length (listing m ss c) → new ≡ over out 0 (listing m ss c) → n ≡ k →
-    ListsPairs m (take n new)
-lists_well m ss c k n out new ends pairs len put is = go (auctioned m) refl ends
+-- a listing is that of the tally that the auction ends with
+pub lists_well : (m : Meaning) → PairsWell m → (text : List ℕ) → listing_after m (auctioned m) ≡ Ok text → ListsPairs m text
+lists_well m pairs text is = go (auctioned m) refl is
   where
-    whole : take n new ≡ listing m ss c
-    whole = ap (take n) put ∙ take_at (listing m ss c) (drop (0 + length (listing m ss c)) out) n (omega (arith, is, len))
-
-    go : (o : Option Tally) → auctioned m ≡ o → Ends o (Ok c) ss → ListsPairs m (take n new)
-    go None e h = let z : ◌≡◌ {A = ℕ} 0 1 = cc in absurd (omega arith)
-    go (Some t) e h = record {
+    go : (o : Option Tally) → auctioned m ≡ o → listing_after m o ≡ Ok text → ListsPairs m text
+    go None e is = let z : ◌≡◌ {A = ℕ} 0 1 = cc in absurd (omega arith)
+    go (Some t) e is = record {
       tally = t;
       ended = e;
-      told = whole ∙ ap (λ z. listing m z c) h.1 ∙ ap (listing m t.standings) (ok_same c t.counts h.0);
+      told = sym (ok_same (listing m t.standings t.counts) text is);
       paired = pairs t e;
     }

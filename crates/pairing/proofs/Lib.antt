@@ -1,3 +1,4 @@
 pub mod Lines
 pub mod Auctions
 pub mod Texts
+pub mod Files

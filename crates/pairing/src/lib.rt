@@ -1,7 +1,7 @@
 // Pairs the carriers and jobs of a sheet file.
 #![tactic(auto)]
 
-ghost use Rattle.std.specs.Prelude.{◌≡◌, ℕ, ◌≤◌, take, length, Ok, None};
+ghost use Rattle.std.specs.Prelude.{◌≡◌, ℕ, ◌≤◌, List, length, Ok};
 ghost use Rattle.numbers.specs.Writing.{over};
 ghost use Rattle.outputs.specs.Puts.{Puts};
 ghost use Rattle.pairing.specs.Listing.{refused_line};
@@ -36,7 +36,7 @@ const FEW_ENTRIES: usize = 512;
 pub fn list_pairs(sheet: &[u8], out: &mut [u8]) -> Result<usize, Refusal>
     ensures answer { result ≡ sized (listed_within sheet.now (length out.old)) }
     ensures after { out.new ≡ put_into out.old (listed_within sheet.now (length out.old)) }
-    ensures paired { (n : ℕ) → result ≡ Ok n → ListsFile sheet.now (take n out.new) }
+    ensures paired { (text : List ℕ) → listed sheet.now ≡ Ok text → ListsFile sheet.now text }
     ensures short { AtMost 8320 (listed sheet.now) }
 {
     // Tables of a fixed size, here and below: no heap is used, since C calls it. A short file gets a small one, since it takes
@@ -53,7 +53,7 @@ fn list_short(sheet: &[u8], out: &mut [u8]) -> Result<usize, Refusal>
     requires { length sheet.now ≤ 1024 }
     ensures answer { result ≡ sized (listed_within sheet.now (length out.old)) }
     ensures after { out.new ≡ put_into out.old (listed_within sheet.now (length out.old)) }
-    ensures paired { (n : ℕ) → result ≡ Ok n → ListsFile sheet.now (take n out.new) }
+    ensures paired { (text : List ℕ) → listed sheet.now ≡ Ok text → ListsFile sheet.now text }
     ensures short { AtMost 8320 (listed sheet.now) }
 {
     let mut starts = [0usize; MOST_STARTS];
@@ -67,7 +67,7 @@ fn list_short(sheet: &[u8], out: &mut [u8]) -> Result<usize, Refusal>
 fn list_long(sheet: &[u8], out: &mut [u8]) -> Result<usize, Refusal>
     ensures answer { result ≡ sized (listed_within sheet.now (length out.old)) }
     ensures after { out.new ≡ put_into out.old (listed_within sheet.now (length out.old)) }
-    ensures paired { (n : ℕ) → result ≡ Ok n → ListsFile sheet.now (take n out.new) }
+    ensures paired { (text : List ℕ) → listed sheet.now ≡ Ok text → ListsFile sheet.now text }
     ensures short { AtMost 8320 (listed sheet.now) }
 {
     let mut starts = [0usize; MOST_STARTS];
@@ -82,7 +82,7 @@ fn list_source<S: Source>(source: &S, out: &mut [u8]) -> Result<usize, Refusal>
     requires { (S.Source.meaning source.now).carriers ≤ 128 }
     ensures answer { result ≡ sized (fitted (length out.old) (listing_after (S.Source.meaning source.now) (auctioned (S.Source.meaning source.now)))) }
     ensures after { out.new ≡ put_into out.old (fitted (length out.old) (listing_after (S.Source.meaning source.now) (auctioned (S.Source.meaning source.now)))) }
-    ensures paired { (n : ℕ) → result ≡ Ok n → ListsPairs (S.Source.meaning source.now) (take n out.new) }
+    ensures paired { (text : List ℕ) → listing_after (S.Source.meaning source.now) (auctioned (S.Source.meaning source.now)) ≡ Ok text → ListsPairs (S.Source.meaning source.now) text }
     ensures short { AtMost 8320 (listing_after (S.Source.meaning source.now) (auctioned (S.Source.meaning source.now))) }
 {
     let mut places = [Standing::Waiting; MOST_CARRIERS];
@@ -115,7 +115,7 @@ pub fn print_pairs(sheet: &[u8], text: &mut [u8; MOST_TEXT]) -> Printed
     ensures len { result.len ≡ length (printed (listed sheet.now)) }
     ensures text { text.new ≡ over text.old 0 (printed (listed sheet.now)) }
     ensures refusal { result.refusal ≡ refusal_in (listed sheet.now) }
-    ensures paired { result.refusal ≡ None → ListsFile sheet.now (take result.len text.new) }
+    ensures paired { (text : List ℕ) → listed sheet.now ≡ Ok text → ListsFile sheet.now text }
 {
     match list_pairs(sheet, text) {
         Ok(len) => Printed { len, refusal: None },

@@ -1,7 +1,7 @@
 // The call for hosts written in C, as a static library: include/torwhisk.h declares it.
 #![tactic(auto)]
 
-ghost use Rattle.std.specs.Prelude.{◌≡◌, ℕ, take, length, pos};
+ghost use Rattle.std.specs.Prelude.{◌≡◌, ℕ, List, length, Ok};
 ghost use Rattle.pairing.specs.Pairs.{AtMost, ListsFile, listed, listed_within, put_into, signed_size};
 
 use pairing::list_pairs;
@@ -11,7 +11,7 @@ use pairing::list_pairs;
 pub extern "C" fn torwhisk_pair(sheet: &[u8], out: &mut [u8]) -> i64
     ensures answer { result ≡ signed_size (listed_within sheet.now (length out.old)) }
     ensures after { out.new ≡ put_into out.old (listed_within sheet.now (length out.old)) }
-    ensures paired { (n : ℕ) → result ≡ pos n → ListsFile sheet.now (take n out.new) }
+    ensures paired { (text : List ℕ) → listed sheet.now ≡ Ok text → ListsFile sheet.now text }
     ensures short { AtMost 8320 (listed sheet.now) }
 {
     // By hand: C knows no Result, so the length and the refusal's number share one integer.
