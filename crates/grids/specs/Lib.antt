@@ -1,1 +1,2 @@
 pub mod Worths
+pub mod Drawn

@@ -3,7 +3,8 @@
 
 pub mod groups;
 
-ghost use Rattle.std.specs.Prelude.{◌≡◌, ℕ, ◌≤◌, ◌*◌, if◌then◌else◌, false, [], map, slice_index_or};
+ghost use Rattle.std.specs.Prelude.{◌≡◌, ℕ, ◌≤◌, ◌*◌, if◌then◌else◌, false, [], map, slice_index, slice_index_or};
+ghost use Rattle.grids.specs.Drawn.{grid_drawn, row_drawn, worth_drawn};
 ghost use Rattle.grids.specs.Worths.{IsBest, RowWithin, Within, capped, floored, pairing_worth, worth_at};
 
 use draws::Draw;
@@ -24,7 +25,8 @@ pub struct Grid {
 impl Grid {
     // A random grid with some entries left out, and with a ceiling of at most this, or of 1.
     pub fn draw(draw: &mut Draw, most: u64) -> Grid
-        ensures { Within most result }
+        ensures drawn { (result, draw.new.state) ≡ grid_drawn most draw.old.state }
+        ensures within { Within most result }
     {
         // By `as`: the check proves that no bits are lost.
         let carriers = 1 + draw.below(4) as usize;
@@ -33,9 +35,7 @@ impl Grid {
         let mut worths = [[0; 4]; 4];
         // By number: after `iter_mut().take(carriers)` (tried) a proof does not know what was written.
         for (carrier, row) in worths.iter_mut().enumerate() {
-            if carrier < carriers {
-                *row = draw_row(draw, jobs, ceiling);
-            }
+            *row = draw_row(draw, carrier < carriers, jobs, ceiling);
         }
         Grid {
             carriers,
@@ -115,19 +115,40 @@ impl Grid {
     }
 }
 
-// A random row: a worth for each job, or 0 for some.
-fn draw_row(draw: &mut Draw, jobs: usize, ceiling: u64) -> [u64; 4]
+// A random row: a worth for each job, or 0 for some; 0 for each where there is no such carrier.
+fn draw_row(draw: &mut Draw, there: bool, jobs: usize, ceiling: u64) -> [u64; 4]
     requires { 1 ≤ ceiling }
-    ensures { RowWithin jobs ceiling result }
+    ensures value { result ≡ (row_drawn there jobs ceiling draw.old.state).0 }
+    ensures state { draw.new.state ≡ (row_drawn there jobs ceiling draw.old.state).1 }
+    ensures within { RowWithin jobs ceiling result }
+    ensures empty { there ≡ false → (j : ℕ) → slice_index result j ≡ 0 }
 {
     let mut row = [0; 4];
+    if !there {
+        return row;
+    }
     // By number: after `iter_mut().take(jobs)` (tried) a proof does not know what was written.
     for (job, worth) in row.iter_mut().enumerate() {
-        if job < jobs && draw.below(5) > 0 {
-            *worth = draw.below(ceiling).saturating_add(1);
-        }
+        *worth = if job < jobs {
+            draw_worth(draw, ceiling)
+        } else {
+            0
+        };
     }
     row
+}
+
+// A random worth, or 0 for some.
+fn draw_worth(draw: &mut Draw, ceiling: u64) -> u64
+    requires { 1 ≤ ceiling }
+    ensures value { result ≡ (worth_drawn ceiling draw.old.state).0 }
+    ensures state { draw.new.state ≡ (worth_drawn ceiling draw.old.state).1 }
+    ensures within { result ≤ ceiling }
+{
+    if draw.below(5) == 0 {
+        return 0;
+    }
+    1 + draw.below(ceiling)
 }
 
 // A row whose worths are multiplied.
