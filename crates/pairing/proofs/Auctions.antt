@@ -1,11 +1,13 @@
 -- The two calls: what they answer, what they lead to, and that the pairing is then worth most.
-use Rattle.std.proofs.Common.{◌≡◌, ℕ, ◌+◌, ◌*◌, ◌^◌, ◌<◌, min, Bool, true, false, cond, ltb, ◌≢◌, List, [], length, get_or, set, Some, None, Ok, Err, Option, Result, sym, refl, ap, ◌∙◌, subst, ⊎_elim, mul-zero, arith, below_more}
+use Rattle.std.proofs.Common.{◌≡◌, ℕ, ◌+◌, ◌*◌, ◌^◌, ◌<◌, min, Bool, true, false, cond, ltb, ◌≢◌, List, length, get_or, set, Some, None, Ok, Err, Option, Result, sym, refl, ap, ◌∙◌, subst, ⊎_elim, mul-zero, arith, below_more, w8, Fits}
 use Rattle.std.proofs.ByRecursion.{All-get_or}
 use Rattle.std.proofs.lemmas.List.{ext_get_or, get_or_past, get_or-set_other, get_or-set_same, length-map}
 use Rattle.std.proofs.lemmas.Bool.{cases_lt, cond_both, cond-true, lt-ltb}
+use Rattle.refusals.specs.declared.Fault.{Fault}
 use Rattle.refusals.specs.declared.Refusal.{Refusal}
 use Rattle.refusals.specs.declared.Refusal.TheVariants.{CountsOutside, NoSuchCarrier}
-use Rattle.sources.specs.Meaning.{Meaning, worth_of}
+use Rattle.sources.specs.Meaning.{Meaning, Sound, worth_of}
+use Rattle.sources.specs.Laws.LayersSound.{times_sound}
 use Rattle.sources.specs.Layers.{scaled, times_of}
 use Rattle.sources.proofs.Worths.{worth_times}
 use Rattle.auction.specs.declared.call.Answer.{Answer}
@@ -23,11 +25,14 @@ use Rattle.auction.specs.Runs.{beginning, ran}
 use Rattle.auction.specs.Calls.{accepted, answer_to, counts_answer, standing_answer, tally_after, tally_by, tally_from, told}
 use Rattle.auction.specs.Laws.{AuctionLaws, ServedOrOut, job_served}
 use Rattle.auction.proofs.Steps.{steps_hold}
+use Rattle.auction.proofs.Reaching.{reached_laws}
 use Rattle.hall.specs.declared.books.Books.{Books}
 use Rattle.hall.specs.InBooks.{tally_of}
 use Rattle.hall.specs.Replayed.{Performed, Replayed}
 use Rattle.pairing.specs.Listing.{listing}
-use Rattle.pairing.specs.Pairs.{Ends, ListsPairs, PairsWell, auctioned, listing_after, timed, two_calls}
+use Rattle.sheetfile.specs.Reading.{loaded_within}
+use Rattle.sheetfile.proofs.Filling.{within_file}
+use Rattle.pairing.specs.Pairs.{Ends, ListsFile, ListsPairs, PairsWell, auctioned, listed, listed_after, listing_after, timed, two_calls}
 
 -- ---- the step stays
 
@@ -93,6 +98,48 @@ times_some g w some =
     (λ none. let z : w ≡ 0 = omega arith in let e : scaled g 0 ≡ 0 = ap (λ k. min k (2 ^ 60)) (mul-zero g) in absurd (omega (arith, ap (scaled g) z, e, some)))
     (cases_lt 0 w)
 
+-- ---- what the two calls lead to
+
+pub ok_same : {A : Type 0} (x y : A) → ◌≡◌ {A = Result A Refusal} (Ok x) (Ok y) → x ≡ y
+ok_same x y e = cc
+
+auction_laws : (m : Meaning) → Sound m → (t : Tally) → auctioned m ≡ Some t → AuctionLaws (timed m) t
+unfolding auctioned
+auction_laws m sound t e = reached_laws (timed m) (times_sound (m.carriers + 1) m sound) (auctioned m) ∣ (two_calls, refl) ∣₁ t e
+
+pairs_well : (m : Meaning) → Sound m → PairsWell m
+pairs_well m sound t e =
+    let law = auction_laws m sound t e in
+    let one : t.step ≡ 1 = some_step (running m) (begun m) (start_answer 1 8 (timed m)) t (ran_step (timed m) 1 8 1000000 (begun m) (opened_step m.carriers m.jobs 1 8)) (sym (auction_is m) ∙ e) in
+    let above : m.carriers * t.step < m.carriers + 1 = rw one (omega arith) in
+    record {
+      own = record {
+        sized = law.own.sized;
+        worthy = λ i j at. times_some (m.carriers + 1) (worth_of m i j) (subst (λ w. 0 < w) (worth_times (m.carriers + 1) m i j) (law.own.worthy i j at));
+        apart = law.own.apart;
+      };
+      best = law.exact m (m.carriers + 1) refl above;
+      best_of_all = λ all p pairing. law.exact m (m.carriers + 1) refl above p pairing
+          (λ i j _. ⊎_elim (λ inside. All-get_or ServedOrOut t.standings i Out inside all) (λ past. subst ServedOrOut (sym (get_or_past t.standings i Out past)) tt) (cases_lt i (length t.standings)));
+    }
+
+-- a listing is that of the tally that the auction ends with
+lists_pairs : (m : Meaning) → Sound m → (text : List ℕ) → (o : Option Tally) → auctioned m ≡ o → listing_after m o ≡ Ok text → ListsPairs m text
+lists_pairs m sound text None e is = let z : ◌≡◌ {A = ℕ} 0 1 = cc in absurd (omega arith)
+lists_pairs m sound text (Some t) e is = record {
+  tally = t;
+  ended = e;
+  told = sym (ok_same (listing m t.standings t.counts) text is);
+  paired = pairs_well m sound t e;
+}
+
+pub lists_file : (bs : List ℕ) → ((i : ℕ) → Fits w8 (get_or bs i 0)) → (text : List ℕ) → listed bs ≡ Ok text → ListsFile bs text
+lists_file bs typed text is = go (loaded_within bs) refl is
+  where
+    go : (r : Result Meaning Fault) → loaded_within bs ≡ r → listed_after r ≡ Ok text → ListsFile bs text
+    go (Err f) e is = let z : ◌≡◌ {A = ℕ} 0 1 = cc in absurd (omega arith)
+    go (Ok m) e is = let file = within_file bs typed m e in (m, file, lists_pairs m file.bounded.sound text (auctioned m) refl is)
+
 -- ---- what the two calls on a new hall show
 
 -- A hall that was made over a source owns it, and has no tally.
@@ -101,36 +148,17 @@ pub as_new : {S : Type 0} (mean : S → Meaning) (s s' : S) (o : Option Tally) (
 as_new mean s s' o before after b same none p =
     subst (λ z. Performed (mean z) two_calls before after None (tally_of b)) same (subst (λ z. Performed (mean s') two_calls before after z (tally_of b)) none p)
 
-module _ (m : Meaning) (n : ℕ) (is : n ≡ m.carriers) (before after : List (Result Answer Refusal)) (b : Option Books) (r : Replayed (times_of (n + 1) m) two_calls before after b) where
+module _ (m : Meaning) (sound : Sound m) (n : ℕ) (is : n ≡ m.carriers) (before after : List (Result Answer Refusal)) (b : Option Books) (r : Replayed (times_of (n + 1) m) two_calls before after b) where
   pub tally_is : tally_of b ≡ auctioned m
   unfolding auctioned
   tally_is = r.tallied ∙ ap (λ k. tally_after (times_of (k + 1) m) two_calls) is
-
-  laws : (t : Tally) → auctioned m ≡ Some t → AuctionLaws (times_of (n + 1) m) t
-  laws t e = r.lawful two_calls [] refl t (sym r.tallied ∙ tally_is ∙ e)
 
   first_is : (d : Result Answer Refusal) → get_or after 0 d ≡ told accepted (start_answer 1 8 (timed m))
   unfolding answer_to
   first_is d = ap (λ (answers : List (Result Answer Refusal)). get_or answers 0 d) r.answered ∙ ap (λ k. told accepted (start_answer 1 8 (times_of (k + 1) m))) is
 
   pub standings_long : (t : Tally) → auctioned m ≡ Some t → length t.standings ≡ n
-  standings_long t e = sym (length-map t.standings job_served) ∙ (laws t e).own.sized ∙ sym is
-
-  pub pairs_well : PairsWell m
-  pairs_well t e =
-      let law = laws t e in
-      let one : t.step ≡ 1 = some_step (running m) (begun m) (start_answer 1 8 (timed m)) t (ran_step (timed m) 1 8 1000000 (begun m) (opened_step m.carriers m.jobs 1 8)) (sym (auction_is m) ∙ e) in
-      let above : m.carriers * t.step < n + 1 = rw one (omega (arith, is)) in
-      record {
-        own = record {
-          sized = law.own.sized;
-          worthy = λ i j at. times_some (n + 1) (worth_of m i j) (subst (λ w. 0 < w) (worth_times (n + 1) m i j) (law.own.worthy i j at));
-          apart = law.own.apart;
-        };
-        best = law.exact m (n + 1) refl above;
-        best_of_all = λ all p pairing. law.exact m (n + 1) refl above p pairing
-            (λ i j _. ⊎_elim (λ inside. All-get_or ServedOrOut t.standings i Out inside all) (λ past. subst ServedOrOut (sym (get_or_past t.standings i Out past)) tt) (cases_lt i (length t.standings)));
-      }
+  standings_long t e = sym (length-map t.standings job_served) ∙ (auction_laws m sound t e).own.sized ∙ sym is
 
   pub ends_refused : (e : Refusal) (d : Result Answer Refusal) (ss : List Standing) → get_or after 0 d ≡ Err e → Ends (auctioned m) (Err e) ss
   ends_refused e d ss first =
@@ -157,19 +185,3 @@ module _ (m : Meaning) (n : ℕ) (is : n ≡ m.carriers) (before after : List (R
 pub noted_more : (ss : List Standing) (i : ℕ) (s : Standing) (f : ℕ → Standing) → i < length ss → s ≡ f i → ((k : ℕ) → k < i → get_or ss k Out ≡ f k) → (k : ℕ) → k < i + 1 → get_or (set ss i s) k Out ≡ f k
 noted_more ss i s f inside is each =
     below_more _ _ (λ k h. let ne : k ≢ i = omega arith in get_or-set_other ss i k s Out ne ∙ each k h) (get_or-set_same ss i s Out inside ∙ is)
-
-pub ok_same : {A : Type 0} (x y : A) → ◌≡◌ {A = Result A Refusal} (Ok x) (Ok y) → x ≡ y
-ok_same x y e = cc
-
--- a listing is that of the tally that the auction ends with
-pub lists_well : (m : Meaning) → PairsWell m → (text : List ℕ) → listing_after m (auctioned m) ≡ Ok text → ListsPairs m text
-lists_well m pairs text is = go (auctioned m) refl is
-  where
-    go : (o : Option Tally) → auctioned m ≡ o → listing_after m o ≡ Ok text → ListsPairs m text
-    go None e is = let z : ◌≡◌ {A = ℕ} 0 1 = cc in absurd (omega arith)
-    go (Some t) e is = record {
-      tally = t;
-      ended = e;
-      told = sym (ok_same (listing m t.standings t.counts) text is);
-      paired = pairs t e;
-    }

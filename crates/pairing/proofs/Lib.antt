@@ -1,4 +1,3 @@
 pub mod Lines
 pub mod Auctions
 pub mod Texts
-pub mod Files

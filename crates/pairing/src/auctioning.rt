@@ -1,6 +1,6 @@
 // The auction of a sheet.
 ghost use Rattle.std.specs.Prelude.{◌≡◌, ◌≤◌, length};
-ghost use Rattle.pairing.specs.Pairs.{Ends, PairsWell, auctioned};
+ghost use Rattle.pairing.specs.Pairs.{Ends, auctioned};
 
 use auction::call::{Answer, Call};
 use auction::standing::{Counts, Standing};
@@ -16,8 +16,7 @@ pub(crate) fn hold_auction<S: Source>(
 ) -> Result<Counts, Refusal>
     requires few { length standings.old ≤ 128 }
     requires each { length standings.old ≡ (S.Source.meaning source.now).carriers }
-    ensures ends { Ends (auctioned (S.Source.meaning source.now)) result standings.new }
-    ensures paired { PairsWell (S.Source.meaning source.now) }
+    ensures { Ends (auctioned (S.Source.meaning source.now)) result standings.new }
 {
     let times = Times {
         below: source,

@@ -5,7 +5,7 @@ ghost use Rattle.std.specs.Prelude.{◌≡◌, ℕ, ◌≤◌, List, length, Ok}
 ghost use Rattle.numbers.specs.Writing.{over};
 ghost use Rattle.outputs.specs.Puts.{Puts};
 ghost use Rattle.pairing.specs.Listing.{refused_line};
-ghost use Rattle.pairing.specs.Pairs.{AtMost, ListsFile, ListsPairs, auctioned, fitted, listed, listed_within, listing_after, printed, put_into, refusal_in, sized};
+ghost use Rattle.pairing.specs.Pairs.{AtMost, ListsFile, auctioned, fitted, listed, listed_within, listing_after, printed, put_into, refusal_in, sized};
 
 use crate::auctioning::hold_auction;
 use crate::listing::Ended;
@@ -53,7 +53,6 @@ fn list_short(sheet: &[u8], out: &mut [u8]) -> Result<usize, Refusal>
     requires { length sheet.now ≤ 1024 }
     ensures answer { result ≡ sized (listed_within sheet.now (length out.old)) }
     ensures after { out.new ≡ put_into out.old (listed_within sheet.now (length out.old)) }
-    ensures paired { (text : List ℕ) → listed sheet.now ≡ Ok text → ListsFile sheet.now text }
     ensures short { AtMost 8320 (listed sheet.now) }
 {
     let mut starts = [0usize; MOST_STARTS];
@@ -67,7 +66,6 @@ fn list_short(sheet: &[u8], out: &mut [u8]) -> Result<usize, Refusal>
 fn list_long(sheet: &[u8], out: &mut [u8]) -> Result<usize, Refusal>
     ensures answer { result ≡ sized (listed_within sheet.now (length out.old)) }
     ensures after { out.new ≡ put_into out.old (listed_within sheet.now (length out.old)) }
-    ensures paired { (text : List ℕ) → listed sheet.now ≡ Ok text → ListsFile sheet.now text }
     ensures short { AtMost 8320 (listed sheet.now) }
 {
     let mut starts = [0usize; MOST_STARTS];
@@ -82,7 +80,6 @@ fn list_source<S: Source>(source: &S, out: &mut [u8]) -> Result<usize, Refusal>
     requires { (S.Source.meaning source.now).carriers ≤ 128 }
     ensures answer { result ≡ sized (fitted (length out.old) (listing_after (S.Source.meaning source.now) (auctioned (S.Source.meaning source.now)))) }
     ensures after { out.new ≡ put_into out.old (fitted (length out.old) (listing_after (S.Source.meaning source.now) (auctioned (S.Source.meaning source.now)))) }
-    ensures paired { (text : List ℕ) → listing_after (S.Source.meaning source.now) (auctioned (S.Source.meaning source.now)) ≡ Ok text → ListsPairs (S.Source.meaning source.now) text }
     ensures short { AtMost 8320 (listing_after (S.Source.meaning source.now) (auctioned (S.Source.meaning source.now))) }
 {
     let mut places = [Standing::Waiting; MOST_CARRIERS];

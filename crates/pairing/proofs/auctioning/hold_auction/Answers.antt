@@ -6,30 +6,29 @@ use Rattle.auction.specs.declared.standing.Standing.TheVariants.{Out}
 use Rattle.auction.specs.Tally.{standing_at}
 use Rattle.hall.specs.InBooks.{tally_of}
 use Rattle.pairing.specs.Pairs.{Ends, auctioned}
-use Rattle.pairing.proofs.Auctions.{as_new, ends_refused, ends_well, noted_more, ok_same, pairs_well, standing_told}
+use Rattle.pairing.proofs.Auctions.{as_new, ends_refused, ends_well, noted_more, ok_same, standing_told}
 use Rattle.pairing.proofs.auctioning.hold_auction.Goals as goal
 use Rattle.pairing.proofs.auctioning.hold_auction.Goals.{in-Ok, in_default}
 
 pub returns-in_err-answers : goal.returns-in_err-answers
 returns-in_err-answers g c =
     let m = g.S.Source.meaning c.args.source.now in
+    let sound = g.S.Source.sound c.args.source.now in
     let n = length c.args.standings.now in
     let r = as_new (λ (s : Times (Bor g.row.S.Denot)). times_of s.factor (g.S.Source.meaning s.below.now)) _ _ _ _ c.perform_all.new.answers c.perform_all.new.self.books c.new-hall.ensures.kept c.new-hall.ensures.tallied (c.perform_all.ensures.performed (ap is_ok c.perform_all.ensures.fits)) in
     let back : c.from_residual.result ≡ Err c.in_err-answers.field-0.0 = search rules in
-    record {
-      ends = subst (λ o. Ends (auctioned m) o c.args.standings.now) (sym back) (ends_refused m n c.requires.each _ c.perform_all.new.answers c.perform_all.new.self.books r c.in_err-answers.field-0.0 _ c.args.standings.now c.in_err-answers.was);
-      paired = pairs_well m n c.requires.each _ c.perform_all.new.answers c.perform_all.new.self.books r;
-    }
+    subst (λ o. Ends (auctioned m) o c.args.standings.now) (sym back) (ends_refused m sound n c.requires.each _ c.perform_all.new.answers c.perform_all.new.self.books r c.in_err-answers.field-0.0 _ c.args.standings.now c.in_err-answers.was)
 
 pub loop-carrier-preserved : goal.loop-carrier-preserved
 loop-carrier-preserved g c t some =
     let m = g.S.Source.meaning c.args.source.now in
+    let sound = g.S.Source.sound c.args.source.now in
     let n = length c.args.standings.now in
     let i = c.loop-carrier.carrier in
     let b = c.perform_all.new.self.books in
     let r = as_new (λ (s : Times (Bor g.row.S.Denot)). times_of s.factor (g.S.Source.meaning s.below.now)) _ _ _ _ c.perform_all.new.answers c.perform_all.new.self.books c.new-hall.ensures.kept c.new-hall.ensures.tallied (c.perform_all.ensures.performed (ap is_ok c.perform_all.ensures.fits)) in
     let told = c.standing.ensures.answered ∙ ap (λ (s : Times (Bor g.row.S.Denot)). standing_answer i (times_of s.factor (g.S.Source.meaning s.below.now)) (tally_of b)) (c.perform_all.ensures.kept ∙ c.new-hall.ensures.kept)
-    ∙ standing_told m n c.requires.each _ c.perform_all.new.answers b r t some i c.loop-carrier-test.true in
+    ∙ standing_told m sound n c.requires.each _ c.perform_all.new.answers b r t some i c.loop-carrier-test.true in
     elim c.match-standing.branch [
       | in-Ok w ↦
           let same : w.in-Ok.told ≡ standing_at t c.loop-carrier.carrier = ok_same _ _ (sym w.in-Ok.is ∙ told) in
@@ -40,13 +39,11 @@ loop-carrier-preserved g c t some =
 pub returns : goal.returns
 returns g c =
     let m = g.S.Source.meaning c.args.source.now in
+    let sound = g.S.Source.sound c.args.source.now in
     let n = length c.args.standings.now in
     let b = c.perform_all.new.self.books in
     let r = as_new (λ (s : Times (Bor g.row.S.Denot)). times_of s.factor (g.S.Source.meaning s.below.now)) _ _ _ _ c.perform_all.new.answers c.perform_all.new.self.books c.new-hall.ensures.kept c.new-hall.ensures.tallied (c.perform_all.ensures.performed (ap is_ok c.perform_all.ensures.fits)) in
     let first = c.in_ok-answers.was in
-    record {
-      ends = ends_well m n c.requires.each _ c.perform_all.new.answers b r _ c.in_ok-answers.field-0 c.counts.result c.loop-carrier.standings first
-          (c.counts.ensures.answered ∙ ap (λ (s : Times (Bor g.row.S.Denot)). counts_answer (times_of s.factor (g.S.Source.meaning s.below.now)) (tally_of b)) (c.perform_all.ensures.kept ∙ c.new-hall.ensures.kept))
-          c.loop-carrier.auto.standings (λ t some k inside. c.loop-carrier.invariant t some k (omega (arith, c.loop-carrier-test.false)));
-      paired = pairs_well m n c.requires.each _ c.perform_all.new.answers b r;
-    }
+    ends_well m sound n c.requires.each _ c.perform_all.new.answers b r _ c.in_ok-answers.field-0 c.counts.result c.loop-carrier.standings first
+    (c.counts.ensures.answered ∙ ap (λ (s : Times (Bor g.row.S.Denot)). counts_answer (times_of s.factor (g.S.Source.meaning s.below.now)) (tally_of b)) (c.perform_all.ensures.kept ∙ c.new-hall.ensures.kept))
+    c.loop-carrier.auto.standings (λ t some k inside. c.loop-carrier.invariant t some k (omega (arith, c.loop-carrier-test.false)))
