@@ -117,7 +117,38 @@ fn least(mut call: impl FnMut()) -> Duration {
         .unwrap_or(once)
 }
 
+/// How many jobs the sheets of a kind have.
+fn jobs_of(carriers: usize, each: usize, kind: Kind) -> usize {
+    match kind {
+        Kind::Easy => (2 * carriers).clamp(each, 256),
+        Kind::Contested => (carriers / 2).max(each),
+    }
+}
+
+/// Makes the call once, on a sheet of so many carriers with so many entries each: `bench once 128 32 contested`.
+/// `count.sh` counts the instructions of such a call.
+fn once(words: &[String]) -> Option<String> {
+    let [carriers, each, kind] = words else { return None };
+    let (carriers, each) = (carriers.parse().ok()?, each.parse().ok()?);
+    let kind = match kind.as_str() {
+        "easy" => Kind::Easy,
+        "contested" => Kind::Contested,
+        _ => return None,
+    };
+    let mut draw = Draw(20261118);
+    let file = sheet_file(&mut draw, carriers, jobs_of(carriers, each, kind), each, kind);
+    let mut out = vec![0; 8320];
+    let told = usize::try_from(proved(&file, &mut out)).ok()?;
+    String::from_utf8_lossy(&out[..told]).lines().last().map(str::to_string)
+}
+
 fn main() {
+    let words: Vec<String> = std::env::args().skip(1).collect();
+    if let [first, rest @ ..] = words.as_slice() {
+        let told = if first == "once" { once(rest) } else { None };
+        println!("{}", told.as_deref().unwrap_or("bench once CARRIERS ENTRIES easy|contested"));
+        return;
+    }
     let mut draw = Draw(20261118);
     let mut out = vec![0; 8320];
     let (count, differ) = compared(&mut draw, &mut out);
@@ -126,9 +157,10 @@ fn main() {
     println!("{:<12} {:<10} {:>9} {:>7} {:>8} {:>12} {:>12} {:>6}", "carriers", "kind", "entries", "awards", "stale", "proved us", "plain us", "ratio");
     for (carriers, each) in [(8, 4), (8, 8), (16, 4), (16, 8), (32, 8), (32, 16), (64, 8), (64, 32), (128, 8), (128, 32)] {
         for kind in [Kind::Easy, Kind::Contested] {
-            let (name, jobs) = match kind {
-                Kind::Easy => ("easy", (2 * carriers).clamp(each, 256)),
-                Kind::Contested => ("contested", (carriers / 2).max(each)),
+            let jobs = jobs_of(carriers, each, kind);
+            let name = match kind {
+                Kind::Easy => "easy",
+                Kind::Contested => "contested",
             };
             let file = sheet_file(&mut draw, carriers, jobs, each, kind);
             let text = plain::pair(&file);
