@@ -3,3 +3,4 @@ pub mod PositionRows
 pub mod Reading
 pub mod Tables
 pub mod Worths
+pub mod Visiting

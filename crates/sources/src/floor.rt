@@ -1,13 +1,35 @@
 // A layer that turns a worth below its floor into 0, and keeps the ceiling.
-ghost use Rattle.sources.specs.Layers.{floor_of};
+ghost use Rattle.std.specs.Prelude.{◌≡◌};
+ghost use Rattle.sources.specs.Layers.{floored, floor_of};
 ghost use Rattle.sources.specs.Laws.LayersSound.{floor_sound};
 
+use crate::revaluing::{Revaluer, Revaluing};
 use crate::source::Source;
+use crate::visitor::Visitor;
 
 #[derive(Drop)]
 pub struct Floor<S> {
     pub below: S,
     pub floor: u64,
+}
+
+// 0 below the floor.
+fn floored(floor: u64, worth: u64) -> u64
+    ensures { result ≡ floored floor worth }
+{
+    if worth < floor { 0 } else { worth }
+}
+
+#[derive(Clone, Copy)]
+struct AtLeast(u64);
+
+impl Revaluer for AtLeast {
+    ghost made = { λ s. floored s.0 };
+
+    #[inline(always)]
+    fn revalued(&self, worth: u64) -> u64 {
+        floored(self.0, worth)
+    }
 }
 
 impl<S: Source> Source for Floor<S> {
@@ -33,11 +55,14 @@ impl<S: Source> Source for Floor<S> {
 
     fn entry(&self, carrier: usize, index: usize) -> Option<(usize, u64)> {
         let (job, worth) = self.below.entry(carrier, index)?;
-        Some((job, if worth < self.floor { 0 } else { worth }))
+        Some((job, floored(self.floor, worth)))
     }
 
-    fn entry_there(&self, carrier: usize, index: usize) -> (usize, u64) {
-        let (job, worth) = self.below.entry_there(carrier, index);
-        (job, if worth < self.floor { 0 } else { worth })
+    #[inline(always)]
+    fn visit<V: Visitor>(&self, carrier: usize, from: usize, count: usize, visitor: V) -> V {
+        let revaluer = AtLeast(self.floor);
+        self.below
+            .visit(carrier, from, count, Revaluing { revaluer, visitor })
+            .into_visitor()
     }
 }

@@ -8,6 +8,8 @@ pub mod form;
 pub mod place;
 pub mod positions;
 pub mod refs;
+mod revaluing;
 pub mod sheet;
 pub mod source;
 pub mod times;
+pub mod visitor;

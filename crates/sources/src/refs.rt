@@ -1,5 +1,6 @@
 // A lent source is a source, and means what the source means.
 use crate::source::Source;
+use crate::visitor::Visitor;
 
 impl<S: Source> Source for &S {
     ghost meaning = { λ s. S.Source.meaning s.now };
@@ -26,7 +27,8 @@ impl<S: Source> Source for &S {
         (**self).entry(carrier, index)
     }
 
-    fn entry_there(&self, carrier: usize, index: usize) -> (usize, u64) {
-        (**self).entry_there(carrier, index)
+    #[inline(always)]
+    fn visit<V: Visitor>(&self, carrier: usize, from: usize, count: usize, visitor: V) -> V {
+        (**self).visit(carrier, from, count, visitor)
     }
 }

@@ -6,7 +6,8 @@ ghost use Rattle.sources.specs.Laws.SheetSound.{sheet_sound};
 ghost use Rattle.sources.specs.Sheets.{within_limits, blank, starts_good, entry_refusal, listed, sheet_rows, sheet_of};
 
 use crate::form::{Entry, Heading};
-use crate::source::Source;
+use crate::source::{Source, part_of};
+use crate::visitor::Visitor;
 
 pub mod filling;
 
@@ -60,5 +61,18 @@ impl Source for Sheet<'_> {
     fn entry(&self, carrier: usize, index: usize) -> Option<(usize, u64)> {
         let entry = self.row(carrier)?.get(index)?;
         Some((entry.job, entry.worth))
+    }
+
+    #[inline(always)]
+    fn visit<V: Visitor>(&self, carrier: usize, from: usize, count: usize, visitor: V) -> V {
+        let Some(row) = self.row(carrier) else {
+            return visitor;
+        };
+        let part = part_of(row.len(), from, count);
+        let mut visitor = visitor;
+        for index in part.start..part.end {
+            visitor = visitor.see(row[index].job, row[index].worth);
+        }
+        visitor
     }
 }

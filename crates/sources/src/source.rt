@@ -1,6 +1,9 @@
 // What every source tells and promises.
-ghost use Rattle.std.specs.Prelude.{◌≡◌, slice_index_or};
+ghost use Rattle.std.specs.Prelude.{◌≡◌, ◌+◌, ◌-◌, min, take, drop, fold};
 ghost use Rattle.sources.specs.Meaning.{Meaning, Sound, row_len, row_of, entry_at};
+
+use crate::visitor::Visitor;
+use std::ops::Range;
 
 // A source of worth. Every question is told by its meaning, and no question alters it.
 // An entry of worth 0 counts as no entry.
@@ -31,11 +34,26 @@ pub trait Source {
     fn entry(&self, carrier: usize, index: usize) -> Option<(usize, u64)>
         ensures { result ≡ entry_at (meaning self.now) carrier index };
 
-    // The same, and (0, 0) where there is no such row or place: plain numbers, for who knows how long the row is. A layer writes its own,
-    // over this call of the source below it.
-    fn entry_there(&self, carrier: usize, index: usize) -> (usize, u64)
-        ensures { result ≡ slice_index_or (row_of (meaning self.now) carrier) index (0, 0) }
+    /// Shows a visitor the entries of the carrier's row from a place on, so many or as many as are left, in their order. A source may write
+    /// its own where it has the row at hand; a layer shows what it makes of the row below it.
+    fn visit<V: Visitor>(&self, carrier: usize, from: usize, count: usize, visitor: V) -> V
+        ensures { result ≡ fold V.shown visitor (take count (drop from (row_of (meaning self.now) carrier))) }
     {
-        self.entry(carrier, index).unwrap_or((0, 0))
+        let part = part_of(self.row_len(carrier).unwrap_or(0), from, count);
+        let mut visitor = visitor;
+        for index in part.start..part.end {
+            let (job, worth) = self.entry(carrier, index).unwrap_or((0, 0));
+            visitor = visitor.see(job, worth);
+        }
+        visitor
     }
+}
+
+// The places of a row of so many entries from one on: so many, or as many as are left.
+pub(crate) fn part_of(entries: usize, from: usize, count: usize) -> Range<usize>
+    ensures start { result.start ≡ min from entries }
+    ensures end { result.end ≡ result.start + min count (entries - result.start) }
+{
+    let start = from.min(entries);
+    start..start + count.min(entries - start)
 }

@@ -1,12 +1,15 @@
 // A layer that turns a worth w into the smaller of factor × w and 2^60, and the ceiling likewise.
-ghost use Rattle.std.specs.Prelude.{◌≡◌};
+ghost use Rattle.std.specs.Prelude.{◌≡◌, ◌*◌, ◌%◌, ◌^◌, ◌<◌};
 ghost use Rattle.sources.specs.Layers.{scaled, times_of};
 ghost use Rattle.sources.specs.Laws.LayersSound.{times_sound};
 
+use crate::revaluing::{Revaluer, Revaluing};
 use crate::source::Source;
+use crate::visitor::Visitor;
 
 const HIGHEST_WORTH: u64 = 1 << 60;
 
+// No product of a worth below this reaches 2^60.
 const SMALL_WORTH: u64 = 1 << 28;
 
 // A struct of its own beside `Floor`: each layer is a plain value that holds the source below it, a form that the project
@@ -20,11 +23,40 @@ pub struct Times<S> {
 fn multiplied(factor: u32, worth: u64) -> u64
     ensures { result ≡ scaled factor worth }
 {
-    // No product of so small a worth reaches 2^60: most worths are scaled by one multiplication.
-    if worth < SMALL_WORTH {
-        u64::from(factor) * worth
-    } else {
-        u64::from(factor).saturating_mul(worth).min(HIGHEST_WORTH)
+    u64::from(factor).saturating_mul(worth).min(HIGHEST_WORTH)
+}
+
+// The factor with room for products. Below 2^32, as its type says.
+fn wide(factor: u32) -> u64
+    ensures value { result ≡ factor }
+    ensures low { result < 2 ^ 32 }
+{
+    u64::from(factor)
+}
+
+// Multiplies any worth.
+#[derive(Clone, Copy)]
+struct Any(u32);
+
+impl Revaluer for Any {
+    ghost made = { λ s. scaled s.0 };
+
+    #[inline(always)]
+    fn revalued(&self, worth: u64) -> u64 {
+        multiplied(self.0, worth)
+    }
+}
+
+// Multiplies small worths: of a larger one the product may wrap.
+#[derive(Clone, Copy)]
+struct Small(u64);
+
+impl Revaluer for Small {
+    ghost made = { λ s w. (s.0 * w) % 2 ^ 64 };
+
+    #[inline(always)]
+    fn revalued(&self, worth: u64) -> u64 {
+        self.0.wrapping_mul(worth)
     }
 }
 
@@ -54,8 +86,19 @@ impl<S: Source> Source for Times<S> {
         Some((job, multiplied(self.factor, worth)))
     }
 
-    fn entry_there(&self, carrier: usize, index: usize) -> (usize, u64) {
-        let (job, worth) = self.below.entry_there(carrier, index);
-        (job, multiplied(self.factor, worth))
+    #[inline(always)]
+    fn visit<V: Visitor>(&self, carrier: usize, from: usize, count: usize, visitor: V) -> V {
+        // One test for the whole part, and then a multiplication for each entry: a tenth of a look.
+        if self.below.ceiling() < SMALL_WORTH {
+            let revaluer = Small(wide(self.factor));
+            self.below
+                .visit(carrier, from, count, Revaluing { revaluer, visitor })
+                .into_visitor()
+        } else {
+            let revaluer = Any(self.factor);
+            self.below
+                .visit(carrier, from, count, Revaluing { revaluer, visitor })
+                .into_visitor()
+        }
     }
 }

@@ -1,7 +1,0 @@
-use Rattle.std.proofs.Common.{ap, ◌∙◌}
-use Rattle.std.specs.Option.{unwrap_or}
-use Rattle.sources.proofs.Reading.{entry_or}
-use Rattle.sources.proofs.source.Source.entry_there.Goals as goal
-
-pub returns : goal.returns
-returns g c = c.unwrap_or.ensures ∙ ap (λ o. unwrap_or o (0, 0)) c.entry.ensures ∙ entry_or (g.Self.Source.meaning c.args.self.now) c.args.carrier c.args.index
