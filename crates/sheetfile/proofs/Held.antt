@@ -1,5 +1,5 @@
 -- Tables that hold the first rows of a sheet: one row more, and all of them.
-use Rattle.std.proofs.Common.{◌≡◌, ℕ, ◌+◌, ◌<◌, ◌≤◌, List, [], ◌∷◌, ◌++◌, map, length, get_or, take, drop, set, Ok, sym, refl, ap, ◌∙◌, append_assoc, arith}
+use Rattle.std.proofs.Common.{◌≡◌, ℕ, ◌+◌, ◌<◌, ◌≤◌, List, [], ◌∷◌, ◌++◌, map, length, take, drop, set, Ok, sym, refl, ap, ◌∙◌, append_assoc, arith}
 use Rattle.std.specs.Result.{result_map_both}
 use Rattle.std.proofs.lemmas.List.{length-append, length-map, take_all, take_at, take_more, take_more_set, take-append-drop}
 use Rattle.refusals.specs.Faults.{fault_of}

@@ -15,4 +15,5 @@ pub mod Writing
 pub mod Again
 pub mod Filling
 pub mod Known
+pub mod Taking
 pub mod Small

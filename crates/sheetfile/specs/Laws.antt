@@ -1,12 +1,12 @@
 -- What loading and writing promise, in terms of the layout.
-use Rattle.std.specs.Prelude.{◌≡◌, ℕ, List, length, take, Ok, Err, Result}
+use Rattle.std.specs.Prelude.{◌≡◌, ℕ, ◌≤◌, List, length, take, Ok, Err, Result}
 use Rattle.refusals.specs.declared.Fault.{Fault}
 use Rattle.refusals.specs.declared.Refusal.{Refusal}
 use Rattle.sources.specs.Meaning.{Meaning}
 use Rattle.sources.specs.Tables.{entries_of, heading_of, starts_of}
 use Rattle.sources.specs.declared.form.Entry.{Entry}
 use Rattle.sources.specs.declared.form.Heading.{Heading}
-use Rattle.sheetfile.specs.Layout.{LongEnough, SheetFile}
+use Rattle.sheetfile.specs.Layout.{LongEnough, SheetFile, entries_in}
 use Rattle.sheetfile.specs.Reading.{loaded}
 use Rattle.sheetfile.specs.Tables.{sheet_in}
 use Rattle.numbers.specs.Writing.{over}
@@ -19,6 +19,11 @@ pub record LoadsExactly (bytes starts : List ℕ) (entries : List Entry) (r : Re
       → (r ≡ Ok (heading_of m)) × (starts' ≡ over starts 0 (starts_of m.rows)) × (entries' ≡ over entries 0 (entries_of m.rows))
   pub only : (h : Heading) → r ≡ Ok h → (m : Meaning) × SheetFile bytes m × LongEnough m (length starts) (length entries) × (h ≡ heading_of m) × (sheet_in h starts' entries' ≡ Ok m)
   pub refused : (e : Fault) → r ≡ Err e → (starts' ≡ starts) × (entries' ≡ entries)
+
+-- Every sheet file of at most 32,768 bytes and 4,096 entries is loaded, and the sheet over the tables means it.
+abbrev pub LoadsEveryWithin : List ℕ → Result Heading Fault → List ℕ → List Entry → Type 0
+LoadsEveryWithin bytes r starts entries =
+    (m : Meaning) → SheetFile bytes m → length bytes ≤ 32768 → entries_in m.rows ≤ 4096 → (r ≡ Ok (heading_of m)) × (sheet_in (heading_of m) starts entries ≡ Ok m)
 
 -- What was written of a source is the sheet file of that source without its zero entries, so that a load accepts it. Of a
 -- source that means a sheet file, that very file was written.

@@ -1,14 +1,14 @@
 // Whole files.
-ghost use Rattle.std.specs.Prelude.{◌≡◌, ◌≤◌, length, IfOk, Ok};
+ghost use Rattle.std.specs.Prelude.{◌≡◌, length, IfOk, Ok};
 ghost use Rattle.numbers.specs.Writing.{over};
-ghost use Rattle.sheetfile.specs.Laws.{LoadsExactly};
-ghost use Rattle.sheetfile.specs.Layout.{SheetFile, entries_in};
+ghost use Rattle.sheetfile.specs.Laws.{LoadsEveryWithin, LoadsExactly};
+ghost use Rattle.sheetfile.specs.Layout.{SheetFile};
 ghost use Rattle.sources.specs.Meaning.{Meaning};
 ghost use Rattle.sheetfile.specs.Reading.{loaded, loaded_within};
 ghost use Rattle.sheetfile.specs.Steps.{and_then, updated};
 ghost use Rattle.sheetfile.specs.Tables.{entries_after, heading_answer, sheet_in, starts_after};
 ghost use Rattle.sources.specs.OfSheet.{sheet_meaning};
-ghost use Rattle.sources.specs.Tables.{entries_of, heading_of, starts_of};
+ghost use Rattle.sources.specs.Tables.{entries_of, starts_of};
 ghost use Rattle.std.specs.Result.{result_map_both};
 
 use crate::loader::Bare;
@@ -128,7 +128,7 @@ pub fn load_within(
     ensures entries { entries.new ≡ updated (loaded_within bytes.now) entries.old (λ m. over entries.old 0 (entries_of m.rows)) }
     ensures filling { and_then result (λ h. sheet_in h starts.new entries.new) ≡ loaded_within bytes.now }
     ensures file { IfOk result (λ h. (m : Meaning) × SheetFile bytes.now m × (sheet_in h starts.new entries.new ≡ Ok m)) }
-    ensures every { (m : Meaning) → SheetFile bytes.now m → length bytes.now ≤ 32768 → entries_in m.rows ≤ 4096 → (result ≡ Ok (heading_of m)) × (sheet_in (heading_of m) starts.new entries.new ≡ Ok m) }
+    ensures every { LoadsEveryWithin bytes.now result starts.new entries.new }
 {
     if bytes.len() > MOST_BYTES {
         return Err(Fault::bare(Refusal::TooShort));
