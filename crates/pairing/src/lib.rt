@@ -33,6 +33,7 @@ const FEW_ENTRIES: usize = 512;
 // Pairs the carriers and jobs of a sheet file, and writes the listing. It gives the listing's length.
 // Refused: what the load refuses; 4 if the ceiling, times (carriers + 1), is above 2^36; and last of all 12 if the listing does not fit.
 // Bytes behind the listing are not touched, and none where it is refused.
+#[tactic(auto, using(crate::proofs::Auctions::lists_file))]
 pub fn list_pairs(sheet: &[u8], out: &mut [u8]) -> Result<usize, Refusal>
     ensures answer { result ≡ sized (listed_within sheet.now (length out.old)) }
     ensures after { out.new ≡ put_into out.old (listed_within sheet.now (length out.old)) }

@@ -81,4 +81,5 @@ pub record ReadsInOrder (m : Meaning) (l : Stand) (starts : List ℕ) (entries :
 pub record ClosesExactly (bytes : List ℕ) (rows : ℕ) (r : Result Closed (Refused Headed)) : Type 0 where
   pub every : (m : Meaning) → SheetFile bytes m → rows ≡ m.carriers → IsOkAnd r (λ c. c.heading ≡ heading_of m)
   pub only : IfOk r (λ c. (m : Meaning) × SheetFile bytes m × (rows ≡ m.carriers) × (c.heading ≡ heading_of m))
-  pub filled : (m : Meaning) (starts : List ℕ) (entries : List Entry) → SheetFile bytes m → HoldsRows m rows starts entries → IfOk r (λ c. sheet_in c.heading starts entries ≡ Ok m)
+  pub filled : (m : Meaning) (starts : List ℕ) (entries : List Entry) → SheetFile bytes m → HoldsRows m rows starts entries
+      → IfOk r (λ c. sheet_in c.heading starts entries ≡ Ok m)
