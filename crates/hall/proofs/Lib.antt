@@ -1,6 +1,7 @@
 pub mod Keeps
 pub mod Entries
 pub mod Seeing
+pub mod Glances
 pub mod Tables
 pub mod Calling
 pub mod Looking

@@ -15,7 +15,7 @@ use Rattle.hall.specs.Seeing.{least, bid_in, merged, merged_best, merged_two}
 
 -- ---- one more entry
 
-natural_max : (a b : ℤ) → natural (int_max a b) ≡ max (natural a) (natural b)
+pub natural_max : (a b : ℤ) → natural (int_max a b) ≡ max (natural a) (natural b)
 natural_max a b =
     let u : up (int_max a b) ≡ max (up a) (up b) = grind (arith, ints, clamps, sides a, sides b, sides (int_max a b)) in
     natural-up (int_max a b) ∙ u ∙ sym (ap (λ n. max n (natural b)) (natural-up a) ∙ ap (max (up a)) (natural-up b))

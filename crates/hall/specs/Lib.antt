@@ -5,3 +5,4 @@ pub mod Steps
 pub mod RunSteps
 pub mod Replayed
 pub mod Seeing
+pub mod Glances

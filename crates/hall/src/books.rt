@@ -6,6 +6,7 @@ use sources::checks::{MOST_CARRIERS, MOST_JOBS};
 use sources::form::Heading;
 
 pub(crate) mod calls;
+mod glance;
 mod questions;
 mod queues;
 mod runs;

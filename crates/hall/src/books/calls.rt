@@ -13,6 +13,7 @@ ghost use Rattle.hall.specs.InBooks.{NotedOf, tally_in};
 ghost use Rattle.hall.specs.Ruled.{Ruled};
 ghost use Rattle.hall.specs.Steps.{counts_after, standing_after};
 
+use super::glance::Glance;
 use super::{Books, Lot};
 use crate::weighing::{Seen, best_worth, merged};
 use auction::standing::{Act, Award, Bid, Counts, Held, Standing, Verdict};
@@ -36,8 +37,9 @@ pub(crate) fn check_start<S: Source>(source: &S, step: u64, lanes: usize) -> Res
     }
 }
 
-// Looks at the next entries of the carrier's row, as many as there are lanes, or as many as are left.
-fn look_on<S: Source>(
+// The same for any nets, entry by entry.
+#[inline(never)]
+fn look_closely<S: Source>(
     source: &S,
     lots: &[Lot; MOST_JOBS],
     lanes: usize,
@@ -54,10 +56,33 @@ fn look_on<S: Source>(
     let count = lanes.min(entries - bid.looked);
     let mut seen = Seen::nothing();
     for place in bid.looked..bid.looked + count {
-        let (job, worth) = source.entry_there(carrier, place);
+        let (job, worth) = source.entry(carrier, place).unwrap_or((0, 0));
         seen = seen.and(job, worth, lots[job].price);
     }
     merged(bid, count, seen)
+}
+
+// Looks at the next entries of the carrier's row, as many as there are lanes, or as many as are left.
+fn look_on<S: Source>(
+    source: &S,
+    lots: &[Lot; MOST_JOBS],
+    lanes: usize,
+    carrier: usize,
+    entries: usize,
+    bid: Bid,
+) -> Bid
+    requires few_jobs { (S.meaning source.now).jobs ≤ 256 }
+    requires low_prices { (j : ℕ) → slice_index (take (S.meaning source.now).jobs (prices_of lots.now)) j ≤ 2 ^ 37 }
+    requires long { entries ≡ length (row_of (S.meaning source.now) carrier) }
+    requires inside { bid.looked ≤ entries }
+    ensures { result ≡ looked_on lanes (take (S.meaning source.now).jobs (prices_of lots.now)) (row_of (S.meaning source.now) carrier) bid }
+{
+    let count = lanes.min(entries - bid.looked);
+    let glance = source.visit(carrier, bid.looked, count, Glance::new(lots));
+    if glance.tells() {
+        return merged(bid, count, glance.seen());
+    }
+    look_closely(source, lots, lanes, carrier, entries, bid)
 }
 
 // What a carrier's standing and the call together lead to: the bid that the call begins, carries on or finds ready to be judged.

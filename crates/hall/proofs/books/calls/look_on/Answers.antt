@@ -1,81 +1,30 @@
--- An entry that is there has a known job and a worth under the ceiling.
-use Rattle.std.proofs.Common.{◌≡◌, ℕ, ◌+◌, ◌-◌, ◌<◌, ◌≤◌, length, get_or, take, drop, ap, ◌∙◌, subst, arith, rules, refl, fold}
-use Rattle.std.proofs.lemmas.List.{get_or-take}
+use Rattle.std.proofs.Common.{◌≡◌, ◌<◌, ◌≤◌, ◌-◌, min, length, take, sym, ◌∙◌, arith}
+use Rattle.std.proofs.lemmas.Bool.{ltb-true}
 use Rattle.sources.specs.Meaning.{row_of}
-use Rattle.sources.proofs.Reading.{row_known, row_within, row_rising, rising_apart}
-use Rattle.auction.specs.Bids.{fresh, weighed, weighed_at}
-use Rattle.hall.specs.Kept.{unsold, prices_of}
-use Rattle.hall.specs.Seeing.{bid_in}
-use Rattle.hall.proofs.Entries.{weighed_cut, price_in, nth_of_all}
-use Rattle.hall.proofs.Seeing.{look_merged, seen_more}
+use Rattle.auction.specs.Bids.{natural}
+use Rattle.hall.specs.Kept.{prices_of}
+use Rattle.hall.specs.Glances.{price_held}
+use Rattle.hall.specs.Seeing.{merged, bid_in}
+use Rattle.hall.proofs.Glances.{glance_is, glance_low}
+use Rattle.hall.proofs.Seeing.{look_merged}
 use Rattle.hall.proofs.books.calls.look_on.Goals as goal
 
-pub offset_bounds-lots-job : goal.offset_bounds-lots-job
-offset_bounds-lots-job g c =
+pub seen-requires-clause-low : goal.seen-requires-clause-low
+seen-requires-clause-low g c =
     let m = g.S.Source.meaning c.args.source.now in
-    let e = c.entry_there-job.ensures in
-    let k : (get_or (row_of m c.args.carrier) c.loop-place.place (0, 0)).0 < m.jobs = nth_of_all (λ e. e.0 < m.jobs) (row_of m c.args.carrier) c.loop-place.place (0, 0) (row_known m (g.S.Source.sound c.args.source.now) c.args.carrier) (omega arith) in
-    let j = ap (λ x. x.0) e in
-    let n : c.entry_there-job.result.0 < 256 = omega (arith, k, j, c.requires.few_jobs) in
-    search rules
+    glance_low m (g.S.Source.sound c.args.source.now) c.requires.few_jobs c.args.lots.now (omega arith) c.requires.low_prices c.args.carrier c.args.bid.looked c.min-count.result
+    c.new.result c.new.ensures.lots c.new.ensures.net c.new.ensures.runner_up c.visit-glance.result c.visit-glance.ensures (ltb-true 0 (natural c.visit-glance.result.net) (sym c.if-tells.ensures))
 
-pub bounds-lots-job : goal.bounds-lots-job
-bounds-lots-job g c =
+pub returns-then-tells : goal.returns-then-tells
+returns-then-tells g c =
     let m = g.S.Source.meaning c.args.source.now in
-    let e = c.entry_there-job.ensures in
-    let k = nth_of_all (λ e. e.0 < m.jobs) (row_of m c.args.carrier) c.loop-place.place (0, 0) (row_known m (g.S.Source.sound c.args.source.now) c.args.carrier) (omega arith) in
-    let j = ap (λ x. x.0) e in
-    omega (arith, k, j, c.requires.few_jobs)
-
-pub and-seen-requires-clause-low_worth : goal.and-seen-requires-clause-low_worth
-and-seen-requires-clause-low_worth g c =
-    let m = g.S.Source.meaning c.args.source.now in
-    let sound = g.S.Source.sound c.args.source.now in
-    let k = nth_of_all (λ e. e.1 ≤ m.ceiling) (row_of m c.args.carrier) c.loop-place.place (0, 0) (row_within m sound c.args.carrier) (omega arith) in
-    omega (arith, k, ap (λ x. x.1) c.entry_there-job.ensures, sound.small)
-
-pub and-seen-requires-clause-low_price : goal.and-seen-requires-clause-low_price
-and-seen-requires-clause-low_price g c =
-    let m = g.S.Source.meaning c.args.source.now in
-    let sound = g.S.Source.sound c.args.source.now in
-    let k = nth_of_all (λ e. e.0 < m.jobs) (row_of m c.args.carrier) c.loop-place.place (0, 0) (row_known m sound c.args.carrier) (omega arith) in
-    let job = c.entry_there-job.result.0 in
-    let known : c.entry_there-job.result.0 < m.jobs = omega (arith, k, ap (λ x. x.0) c.entry_there-job.ensures) in
-    let price = price_in c.args.lots.now job unsold (omega (arith, known, c.requires.few_jobs)) in
-    omega (arith, price, get_or-take m.jobs (prices_of c.args.lots.now) job 0 known, c.requires.low_prices job)
-
-pub loop-place-preserved : goal.loop-place-preserved
-loop-place-preserved g c =
-    let m = g.S.Source.meaning c.args.source.now in
-    let sound = g.S.Source.sound c.args.source.now in
+    let ps = take m.jobs (prices_of c.args.lots.now) in
     let row = row_of m c.args.carrier in
-    let lots = c.args.lots.now in
-    let ps = take m.jobs (prices_of lots) in
-    let place = c.loop-place.place in
-    let from = c.args.bid.looked in
-    let s = c.loop-place.seen in
-    let e = c.entry_there-job.result in
-    let inside : c.loop-place.place < length (row_of m c.args.carrier) = omega arith in
-    let k = nth_of_all (λ e. e.0 < m.jobs) row place (0, 0) (row_known m sound c.args.carrier) inside in
-    let known : c.entry_there-job.result.0 < m.jobs = omega (arith, k, ap (λ x. x.0) c.entry_there-job.ensures) in
-    let before : ℕ = place - from in
-    let next : (c.loop-place.place - c.args.bid.looked) + 1 ≡ c.loop-place.place + 1 - c.args.bid.looked = omega arith in
-    let so_far = bid_in (place - from) s.net s.job s.worth s.runner_up in
-    let price = price_in lots e.0 unsold (omega (arith, known, c.requires.few_jobs)) in
-    let step = c.and-seen.ensures.seen (place - from) ∙ ap (λ p. weighed_at p so_far e) price ∙ weighed_cut m.jobs (prices_of lots) so_far e.0 e.1 known in
-    let more = step ∙ seen_more ps row from place (place - from) so_far e (omega arith) refl inside c.entry_there-job.ensures c.loop-place.invariant.folded in
-    record {
-      folded = let r = c.and-seen.result in
-          subst (λ n. bid_in n r.net r.job r.worth r.runner_up ≡ fold (weighed ps) fresh (take n (drop from row))) next more;
-      rises = λ n l i.
-          let apart = rising_apart 0 row (row_rising m sound c.args.carrier) place n (omega arith) i in
-          c.and-seen.ensures.rises (get_or row n (0, 0)).0 (omega (arith, apart, ap (λ x. x.0) c.entry_there-job.ensures));
-    }
-
-pub returns : goal.returns
-returns g c =
-    let m = g.S.Source.meaning c.args.source.now in
-    let s = c.loop-place.seen in
-    let count : c.loop-place.place - c.args.bid.looked ≡ c.min-count.result = omega arith in
-    let seen = subst (λ n. bid_in n s.net s.job s.worth s.runner_up ≡ fold (weighed (take m.jobs (prices_of c.args.lots.now))) fresh (take n (drop c.args.bid.looked (row_of m c.args.carrier)))) count c.loop-place.invariant.folded in
-    c.merged.ensures ∙ look_merged c.args.lanes c.min-count.result (take m.jobs (prices_of c.args.lots.now)) (row_of m c.args.carrier) c.args.bid _ (omega (arith, c.min-count.ensures, c.requires.long)) seen
+    let bid = c.args.bid in
+    let count = c.min-count.result in
+    let e = c.seen.ensures in
+    let n : c.min-count.result ≡ min c.args.lanes (length (row_of m c.args.carrier) - c.args.bid.looked) = omega (arith, c.min-count.ensures, c.requires.long) in
+    let is = glance_is m (g.S.Source.sound c.args.source.now) c.requires.few_jobs c.args.lots.now (omega arith) c.requires.low_prices c.args.carrier c.args.bid.looked c.min-count.result
+    c.new.result c.new.ensures.lots c.new.ensures.net c.new.ensures.runner_up c.visit-glance.result c.visit-glance.ensures (ltb-true 0 (natural c.visit-glance.result.net) (sym c.if-tells.ensures)) (omega (arith, n)) in
+    c.merged.ensures ∙ (λ i. merged bid (bid_in count (e.net i) (e.job i) (e.worth i) (e.runner_up i)))
+    ∙ look_merged c.args.lanes count ps row bid _ n is

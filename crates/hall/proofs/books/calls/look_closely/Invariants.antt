@@ -3,7 +3,7 @@ use Rattle.sources.specs.Meaning.{row_of}
 use Rattle.auction.specs.Bids.{fresh, weighed}
 use Rattle.hall.specs.Kept.{prices_of}
 use Rattle.hall.specs.Seeing.{bid_in}
-use Rattle.hall.proofs.books.calls.look_on.Given as goal
+use Rattle.hall.proofs.books.calls.look_closely.Given as goal
 
 -- What was seen is what the entries up to here come to among themselves, and its job is below those that follow.
 abbrev pub invariant-loop-place : goal.invariant-loop-place
