@@ -1,6 +1,6 @@
 // Auctions call by call.
 use crate::sheets::{bid, hall_of, table_hall, won};
-use auction::standing::Verdict;
+use auction::standing::{Best, Bid, Standing, Verdict};
 use hall::hall::Hall;
 use refusals::Refusal;
 use sources::floor::Floor;
@@ -104,6 +104,50 @@ fn a_look_takes_as_many_entries_as_lanes(rt: HostRuntime) -> Result<(), Fail> {
     hall.look(2)?;
     assert_eq!(rt; hall.look(2), Err(Refusal::RowLookedAt));
     assert_eq!(rt; hall.settle(2), won(1, 7, None));
+    Ok(())
+}
+
+// Between two looks job 1 is awarded at 6. The net that was seen of it before stays in the bid, and 7 is above 6.
+#[test]
+fn a_bid_keeps_the_nets_that_it_saw(rt: HostRuntime) -> Result<(), Fail> {
+    let mut hall = table_hall();
+    hall.start(1, 2)?;
+    hall.summon(2)?;
+    hall.look(2)?;
+    hall.summon(0)?;
+    hall.look(0)?;
+    hall.look(0)?;
+    assert_eq!(rt; hall.settle(0), won(1, 6, None));
+    hall.look(2)?;
+    let best = Best {
+        net: 14,
+        job: 1,
+        worth: 14,
+    };
+    let bid = Bid {
+        looked: 3,
+        best: Some(best),
+        runner_up: 8,
+    };
+    assert_eq!(rt; hall.standing(2), Ok(Standing::Bidding(bid)));
+    assert_eq!(rt; hall.settle(2), won(1, 7, Some(0)));
+    Ok(())
+}
+
+// A job that costs more than when it was seen stays the runner-up at its old net: 9 - 8 + 1 is bid, and not 9 - 2 + 1.
+#[test]
+fn a_runner_up_that_has_risen_makes_no_higher_bid(rt: HostRuntime) -> Result<(), Fail> {
+    let entries = [
+        Entry { job: 0, worth: 9 },
+        Entry { job: 1, worth: 8 },
+        Entry { job: 1, worth: 5 },
+    ];
+    let mut hall = hall_of(2, 2, &[0, 2, 3], &entries);
+    hall.start(1, 4)?;
+    hall.summon(0)?;
+    hall.look(0)?;
+    assert_eq!(rt; bid(&mut hall, 1), won(1, 6, None));
+    assert_eq!(rt; hall.settle(0), won(0, 2, None));
     Ok(())
 }
 

@@ -1,5 +1,6 @@
 // Runs and questions.
 use crate::sheets::{hall_of, table_hall};
+use auction::call::{Answer, Call};
 use auction::standing::{Best, Bid, Counts, Ending, Held, Report, Standing};
 use refusals::Refusal;
 use sources::form::Entry;
@@ -99,6 +100,30 @@ fn runs_without_a_step(rt: HostRuntime) -> Result<(), Fail> {
     };
     assert_eq!(rt; hall.run(1, u64::MAX), Ok(done));
     assert_eq!(rt; hall.holder(1), Ok(None));
+    Ok(())
+}
+
+// Two calls on a hall that was started before. Where there is one place for their answers, neither is made.
+#[test]
+fn a_list_of_calls_goes_on_with_an_auction(rt: HostRuntime) -> Result<(), Fail> {
+    let mut hall = table_hall();
+    hall.start(1, 4)?;
+    let calls = [Call::Summon(2), Call::StandingOf(2)];
+    let mut answers = [Ok(Answer::Worth(9)); 2];
+    assert_eq!(rt;
+        hall.perform_all(&calls, &mut answers[0..1]),
+        Err(Refusal::TooShort)
+    );
+    assert_eq!(rt; answers[0], Ok(Answer::Worth(9)));
+    assert_eq!(rt; hall.standing(2), Ok(Standing::Waiting));
+    hall.perform_all(&calls, &mut answers)?;
+    let bid = Bid {
+        looked: 0,
+        best: None,
+        runner_up: 0,
+    };
+    assert_eq!(rt; answers[0], Ok(Answer::Accepted));
+    assert_eq!(rt; answers[1], Ok(Answer::Stands(Standing::Bidding(bid))));
     Ok(())
 }
 

@@ -30,7 +30,7 @@ fn main(rt: HostRuntime) -> anyhow::Result<()> {
         refused,
     } = sums;
     println!(rt;
-        "{SHEETS} small sheets and {CONTESTED} contested ones: {best} worth as much as the best pairing, {open} cut off; {damaged} damaged files, {refused} of them refused"
+        "{SHEETS} small sheets and {CONTESTED} contested ones: {best} worth as much as the best pairing, {open} cut off and worth as much as the best one of the carriers served or out; {damaged} damaged files, {refused} of them refused"
     )?;
     Ok(())
 }

@@ -7,6 +7,8 @@ pub(crate) struct Told {
     pub(crate) worth: u64,
     // How many carriers have `?`.
     pub(crate) open: u64,
+    // Who has a job or `-`.
+    pub(crate) done: [bool; 4],
 }
 
 // What a line tells of its carrier.
@@ -76,9 +78,10 @@ pub(crate) fn read_listing(grid: &Grid, text: &str) -> Option<Told> {
             Line::Served { job, worth } => {
                 take_job(grid, carrier, (job, worth), &mut taken)?;
                 told.worth = told.worth.saturating_add(worth);
+                *told.done.get_mut(carrier)? = true;
             }
             Line::Open => told.open = told.open.saturating_add(1),
-            Line::Out => {}
+            Line::Out => *told.done.get_mut(carrier)? = true,
         }
     }
     let last = read_last(lines.next()?)?;

@@ -55,20 +55,19 @@ fn is_refused(sheet: &[u8], out: &mut [u8], refusal: Refusal) -> bool {
     list_pairs(sheet, out) == Err(refusal) && is_untouched(out)
 }
 
-// A listing is right, and worth as much as the best pairing unless the auction was cut off; and it is refused where one byte less
-// is lent.
+// A listing is right, and worth as much as the best pairing of the carriers that have a job or are out, also where the auction was cut
+// off; and it is refused where one byte less is lent.
 fn on_grid(grid: &Grid, sheet: &[u8], sums: &mut Sums) -> anyhow::Result<()> {
     let mut out = [UNTOUCHED; ROOM];
     let text = listing_in(sheet, &mut out).context(WRONG)?;
-    let Told { worth, open } = read_listing(grid, text).context(WRONG)?;
+    let Told { worth, open, done } = read_listing(grid, text).context(WRONG)?;
     let count = if open == 0 {
         &mut sums.best
     } else {
         &mut sums.open
     };
     *count = count.saturating_add(1);
-    let best = grid.best();
-    ensure!(worth <= best && (worth == best || open > 0), WRONG);
+    ensure!(worth == grid.only(&done).best(), WRONG);
     let mut short = [UNTOUCHED; ROOM];
     let room = text.len().saturating_sub(1).min(ROOM);
     ensure!(

@@ -1,12 +1,39 @@
-// What is drawn: the tables of a random grid, and random lists of calls.
-use auction::call::Call;
+// What is drawn for a trial: a grid, layers and a list of calls; and the tables of the grid's sheet.
+use auction::call::{Answer, Call};
 use draws::Draw;
 use grids::Grid;
+use refusals::Refusal;
 use sources::form::Entry;
 use std::alloc::{AllocError, Global};
 
 // How many calls a list has.
 pub(crate) const CALLS: usize = 60;
+
+// What a list of calls answers.
+pub(crate) type Answers = [Result<Answer, Refusal>; CALLS];
+
+pub(crate) const NO_ANSWERS: Answers = [Ok(Answer::Accepted); CALLS];
+
+// A sheet's worths, the numbers of the layers above it, and the calls.
+#[derive(Drop)]
+pub(crate) struct Trial {
+    pub(crate) grid: Grid,
+    pub(crate) factor: u32,
+    pub(crate) floor: u64,
+    pub(crate) calls: [Call; CALLS],
+}
+
+impl Trial {
+    pub(crate) fn draw(draw: &mut Draw) -> Trial {
+        let grid = Grid::draw(draw, 20);
+        Trial {
+            grid,
+            factor: 1 + draw.below(8) as u32,
+            floor: draw.below(grid.ceiling.saturating_add(2)),
+            calls: draw_calls(draw, &grid),
+        }
+    }
+}
 
 // The tables of a grid.
 #[derive(Drop)]
@@ -54,15 +81,15 @@ fn draw_near(draw: &mut Draw, some: u64, limit: u64) -> u64 {
 fn draw_call(draw: &mut Draw, grid: &Grid) -> Call {
     let carrier = draw.below((grid.carriers as u64).saturating_add(1)) as usize;
     let job = draw.below((grid.jobs as u64).saturating_add(1)) as usize;
-    match draw.below(18) {
+    match draw.below(36) {
         0 => Call::Start {
             step: draw_near(draw, 4, 1 << 36),
             lanes: draw_near(draw, 5, 32) as usize,
         },
-        1..=4 => Call::Summon(carrier),
-        5..=9 => Call::Look(carrier),
-        10..=13 => Call::Settle(carrier),
-        14 => Call::Run {
+        1..=8 => Call::Summon(carrier),
+        9..=18 => Call::Look(carrier),
+        19..=26 => Call::Settle(carrier),
+        27..=30 => Call::Run {
             depth: draw_near(draw, 5, 128) as usize,
             budget: draw.below(30),
         },
@@ -71,7 +98,7 @@ fn draw_call(draw: &mut Draw, grid: &Grid) -> Call {
 }
 
 // A random list of calls. Three of four begin with a start.
-pub(crate) fn draw_calls(draw: &mut Draw, grid: &Grid) -> [Call; CALLS] {
+fn draw_calls(draw: &mut Draw, grid: &Grid) -> [Call; CALLS] {
     let starts = draw.below(4) > 0;
     let mut calls = [Call::Start { step: 1, lanes: 2 }; CALLS];
     for call in calls.iter_mut().skip(usize::from(starts)) {

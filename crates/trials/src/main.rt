@@ -1,102 +1,94 @@
 // Random auctions on small sheets: random lists of calls, on a sheet as it is, under a times layer, under a floor layer, and under
 // a times layer over a floor layer. After each call every law is checked by the hall's own answers, beside a search through all
-// pairings, or, until a start is accepted, that every other call is refused; and the whole list, replayed, gives the same answers.
+// pairings; each bid is reckoned anew from the prices that it has seen, and each run is looked inside step by step.
 #![tactic(auto)]
 
+mod acts;
+mod bids;
+mod course;
 mod drawn;
 mod laws;
-mod seen;
+mod pairings;
+mod refused;
+mod runs;
+mod state;
+mod terms;
+mod told;
+mod verdicts;
 
-use auction::call::{Answer, Call};
-use drawn::{CALLS, draw_calls, tables_of};
+use anyhow::{Context, bail, ensure};
+use course::Course;
+use drawn::{CALLS, Trial, tables_of};
 use draws::Draw;
-use grids::Grid;
-use hall::hall::Hall;
-use hall::replay::replay;
-use laws::{check_call, is_exact};
-use refusals::Refusal;
-use seen::{Seen, Terms, Trouble, check};
+use laws::{Checks, LAWS};
 use sources::floor::Floor;
 use sources::form::Heading;
 use sources::sheet::Sheet;
 use sources::source::Source;
 use sources::times::Times;
-use std::alloc::Global;
+use std::{env, io};
+use terms::{Layers, Terms};
 
 const SHEETS: u32 = 5000;
 
-// How much was tried: the calls; the checks on halls that were never started; the others by the number of layers, and those of them
-// under a factor that makes the pairing exact.
-#[derive(Default, Drop)]
-struct Sums {
-    calls: u64,
-    never_started: u64,
-    layers: [u64; 3],
-    exact: u64,
+// The checks made so far, the sheet that is tried now, and whether its calls are printed.
+#[derive(Drop)]
+struct Bench {
+    checks: Checks,
+    sheet: u32,
+    is_shown: bool,
 }
 
-impl Sums {
-    // Notes the check behind a call, with what the hall told, if it was started.
-    fn note_check(&mut self, terms: &Terms, seen: Option<&Seen>) {
-        self.calls = self.calls.saturating_add(1);
-        let Some(seen) = seen else {
-            self.never_started = self.never_started.saturating_add(1);
-            return;
-        };
-        if let Some(checks) = self.layers.get_mut(terms.layers) {
-            *checks = checks.saturating_add(1);
+// Prints the calls of a course, each with its answer, as a log has them.
+fn show<S: Source + Drop>(rt: &impl Print, course: &Course<'_, S>) -> io::Result<()> {
+    let layers = course.terms.layers;
+    println!(rt; "{layers}")?;
+    let answers = course.replayed();
+    let calls = course.calls;
+    for (number, (call, answer)) in calls.iter().zip(&answers).enumerate() {
+        match *answer {
+            Ok(answer) => println!(rt; "{number} {call}: {answer}")?,
+            Err(refusal) => println!(rt; "{number} {call}: refused {refusal}")?,
         }
-        self.exact = self.exact.saturating_add(u64::from(is_exact(terms, seen)));
     }
+    Ok(())
 }
 
-// What a list of calls answers.
-type Answers = [Result<Answer, Refusal>; CALLS];
-
-const NO_ANSWERS: Answers = [Ok(Answer::Accepted); CALLS];
-
-// Makes the calls one by one on a new hall, and checks after each what has to hold.
-fn play<S: Source + Drop>(
-    source: S,
-    calls: &[Call; CALLS],
-    terms: &Terms,
-    sums: &mut Sums,
-) -> Result<Answers, Trouble> {
-    let mut hall = Hall::new(source);
-    let mut answers = NO_ANSWERS;
-    let mut seen = None;
-    for (call, answer) in calls.iter().zip(answers.iter_mut()) {
-        *answer = hall.perform(*call);
-        seen = check_call(&mut hall, terms, seen, *call, *answer)?;
-        sums.note_check(terms, seen.as_ref());
-    }
-    Ok(answers)
-}
-
-// The answers of a replay of the calls.
-fn replayed<S: Source + Drop>(source: S, calls: &[Call; CALLS]) -> Answers {
-    let mut again = NO_ANSWERS;
-    let _ = replay(source, calls, &mut again);
-    again
-}
-
-// Plays the calls on a source; a replay gives the same answers.
-fn try_source<S: Source>(
+// Plays the calls of a trial on a source. If a law is broken, it prints which and where.
+fn on_source<S: Source + Drop>(
+    rt: &impl Print,
+    bench: &mut Bench,
+    trial: &Trial,
     source: &S,
-    calls: &[Call; CALLS],
-    terms: &Terms,
-    sums: &mut Sums,
-) -> Result<(), Trouble> {
-    let answers = play(source, calls, terms, sums)?;
-    check(answers == replayed(source, calls))
+    terms: Terms,
+) -> anyhow::Result<()> {
+    let course = Course {
+        source,
+        terms: &terms,
+        calls: &trial.calls,
+    };
+    if bench.is_shown {
+        show(rt, &course)?;
+    }
+    let sheet = bench.sheet;
+    if let Err(failure) = course.check(&mut bench.checks) {
+        println!(rt; "sheet {sheet} {failure}")?;
+        bail!(
+            "a law is broken; `trials {sheet}` makes the calls on this sheet alone, and prints them"
+        );
+    }
+    Ok(())
 }
 
-// Plays a random list of calls on a sheet, and under layers with a random floor and a random factor.
-fn try_sheet(draw: &mut Draw, sheet: &Sheet, grid: Grid, sums: &mut Sums) -> Result<(), Trouble> {
-    let factor = 1 + draw.below(8) as u32;
-    let floor = draw.below(grid.ceiling.saturating_add(2));
-    let calls = draw_calls(draw, &grid);
-    let plain = Terms::plain(grid);
+// Plays the calls of a trial on its sheet, and under layers.
+fn on_layers(
+    rt: &impl Print,
+    bench: &mut Bench,
+    trial: &Trial,
+    sheet: &Sheet<'_>,
+) -> anyhow::Result<()> {
+    let Trial { factor, floor, .. } = *trial;
+    let plain = Terms::plain(trial.grid);
     let floored = plain.floor(floor);
     let above_floor = Floor {
         below: sheet,
@@ -106,48 +98,69 @@ fn try_sheet(draw: &mut Draw, sheet: &Sheet, grid: Grid, sums: &mut Sums) -> Res
         below: sheet,
         factor,
     };
-    try_source(sheet, &calls, &plain, sums)?;
-    try_source(&times, &calls, &plain.times(factor), sums)?;
-    try_source(&above_floor, &calls, &floored, sums)?;
+    on_source(rt, bench, trial, sheet, plain)?;
+    on_source(rt, bench, trial, &times, plain.times(factor, Layers::Times))?;
+    on_source(rt, bench, trial, &above_floor, floored)?;
     let both = Times {
         below: &above_floor,
         factor,
     };
-    try_source(&both, &calls, &floored.times(factor), sums)
+    let terms = floored.times(factor, Layers::TimesOverFloor);
+    on_source(rt, bench, trial, &both, terms)
 }
 
-// A random sheet.
-fn on_one_sheet(heap: Global, draw: &mut Draw, sums: &mut Sums) -> anyhow::Result<()> {
-    let grid = Grid::draw(draw, 20);
-    let tables = tables_of(heap, &grid)?;
+// One trial, on a sheet of its grid.
+fn on_trial(rt: &HostRuntime, bench: &mut Bench, trial: &Trial) -> anyhow::Result<()> {
+    let tables = tables_of(rt.alloc(), &trial.grid)?;
     let heading = Heading {
-        carriers: grid.carriers,
-        jobs: grid.jobs,
-        ceiling: grid.ceiling,
+        carriers: trial.grid.carriers,
+        jobs: trial.grid.jobs,
+        ceiling: trial.grid.ceiling,
     };
     let mut sheet = Sheet::new();
-    sheet
-        .fill(heading, &tables.starts, &tables.entries)
-        .map_err(|_| Trouble::Unfilled)?;
-    try_sheet(draw, &sheet, grid, sums)?;
+    sheet.fill(heading, &tables.starts, &tables.entries)?;
+    on_layers(rt, bench, trial, &sheet)
+}
+
+// The number of the sheet that is to be tried alone, if the program was given one.
+fn sheet_wanted(rt: &HostRuntime) -> anyhow::Result<Option<u32>> {
+    match env::args(rt)?.nth(1) {
+        None => Ok(None),
+        Some(text) => Ok(Some(text.parse().context("the number of a sheet is wanted")?)),
+    }
+}
+
+// How often each law had something to check. One that never had would be no check.
+fn tell_checks(rt: &impl Print, checks: &Checks) -> anyhow::Result<()> {
+    for law in LAWS {
+        let made = checks.made(law);
+        println!(rt; "{made} {law}")?;
+        ensure!(made > 0, "a law was never checked");
+    }
     Ok(())
 }
 
 // Prints how much was tried; ends with status 1 at the first law that is broken.
 fn main(rt: HostRuntime) -> anyhow::Result<()> {
+    let wanted = sheet_wanted(&rt)?;
     let mut draw = Draw::new(20261118);
-    let mut sums = Sums::default();
-    for _ in 0..SHEETS {
-        on_one_sheet(rt.alloc(), &mut draw, &mut sums)?;
+    let mut bench = Bench {
+        checks: Checks::none(),
+        sheet: 0,
+        is_shown: wanted.is_some(),
+    };
+    for sheet in 0..SHEETS {
+        let trial = Trial::draw(&mut draw);
+        bench.sheet = sheet;
+        if wanted.unwrap_or(sheet) == sheet {
+            on_trial(&rt, &mut bench, &trial)?;
+        }
     }
-    let Sums {
-        calls,
-        never_started,
-        layers: [plain, one, two],
-        exact,
-    } = sums;
-    println!(rt;
-        "{SHEETS} sheets, {calls} calls: all laws held after each call on a started hall ({plain} checks without a layer, {one} under one, {two} under two; {exact} of them exact), a hall never started refused all but a start ({never_started} checks), and each list replayed gave the same answers"
-    )?;
+    if wanted.is_none() {
+        println!(rt;
+            "{SHEETS} sheets, each with {CALLS} calls under four piles of layers: all laws held. How often each was checked:"
+        )?;
+        tell_checks(&rt, &bench.checks)?;
+    }
     Ok(())
 }
