@@ -6,7 +6,7 @@ ghost use Rattle.sources.specs.Laws.SheetSound.{sheet_sound};
 ghost use Rattle.sources.specs.Sheets.{within_limits, blank, starts_good, entry_refusal, listed, sheet_rows, sheet_of};
 
 use crate::form::{Entry, Heading};
-use crate::source::{Source, part_of};
+use crate::source::Source;
 use crate::visitor::Visitor;
 
 pub mod filling;
@@ -68,9 +68,11 @@ impl Source for Sheet<'_> {
         let Some(row) = self.row(carrier) else {
             return visitor;
         };
-        let part = part_of(row.len(), from, count);
+        if from >= row.len() {
+            return visitor;
+        }
         let mut visitor = visitor;
-        for index in part.start..part.end {
+        for index in from..from + count.min(row.len() - from) {
             visitor = visitor.see(row[index].job, row[index].worth);
         }
         visitor

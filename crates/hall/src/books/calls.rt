@@ -45,13 +45,13 @@ fn look_closely<S: Source>(
     lanes: usize,
     carrier: usize,
     entries: usize,
-    bid: Bid,
-) -> Bid
+    bid: &mut Bid,
+)
     requires few_jobs { (S.meaning source.now).jobs ≤ 256 }
     requires low_prices { (j : ℕ) → slice_index (take (S.meaning source.now).jobs (prices_of lots.now)) j ≤ 2 ^ 37 }
     requires long { entries ≡ length (row_of (S.meaning source.now) carrier) }
-    requires inside { bid.looked ≤ entries }
-    ensures { result ≡ looked_on lanes (take (S.meaning source.now).jobs (prices_of lots.now)) (row_of (S.meaning source.now) carrier) bid }
+    requires inside { bid.old.looked ≤ entries }
+    ensures { bid.new ≡ looked_on lanes (take (S.meaning source.now).jobs (prices_of lots.now)) (row_of (S.meaning source.now) carrier) bid.old }
 {
     let count = lanes.min(entries - bid.looked);
     let mut seen = Seen::nothing();
@@ -59,7 +59,7 @@ fn look_closely<S: Source>(
         let (job, worth) = source.entry(carrier, place).unwrap_or((0, 0));
         seen = seen.and(job, worth, lots[job].price);
     }
-    merged(bid, count, seen)
+    *bid = merged(*bid, count, seen);
 }
 
 // Looks at the next entries of the carrier's row, as many as there are lanes, or as many as are left.
@@ -69,20 +69,21 @@ fn look_on<S: Source>(
     lanes: usize,
     carrier: usize,
     entries: usize,
-    bid: Bid,
-) -> Bid
+    bid: &mut Bid,
+)
     requires few_jobs { (S.meaning source.now).jobs ≤ 256 }
     requires low_prices { (j : ℕ) → slice_index (take (S.meaning source.now).jobs (prices_of lots.now)) j ≤ 2 ^ 37 }
     requires long { entries ≡ length (row_of (S.meaning source.now) carrier) }
-    requires inside { bid.looked ≤ entries }
-    ensures { result ≡ looked_on lanes (take (S.meaning source.now).jobs (prices_of lots.now)) (row_of (S.meaning source.now) carrier) bid }
+    requires inside { bid.old.looked ≤ entries }
+    ensures { bid.new ≡ looked_on lanes (take (S.meaning source.now).jobs (prices_of lots.now)) (row_of (S.meaning source.now) carrier) bid.old }
 {
     let count = lanes.min(entries - bid.looked);
     let glance = source.visit(carrier, bid.looked, count, Glance::new(lots));
     if glance.tells() {
-        return merged(bid, count, glance.seen());
+        *bid = merged(*bid, count, glance.seen());
+    } else {
+        look_closely(source, lots, lanes, carrier, entries, bid);
     }
-    look_closely(source, lots, lanes, carrier, entries, bid)
 }
 
 // What a carrier's standing and the call together lead to: the bid that the call begins, carries on or finds ready to be judged.
@@ -105,7 +106,7 @@ fn respond<S: Source>(
     ensures stood { standing.new ≡ standing_after standing.old result }
     ensures numbered { counts.new ≡ counts_after act counts.old result }
 {
-    match (*standing, act) {
+    match (&mut *standing, act) {
         (Standing::Waiting, Act::Summon) => {
             let bid = Bid {
                 looked: 0,
@@ -121,15 +122,14 @@ fn respond<S: Source>(
             if bid.looked >= entries {
                 return Err(Refusal::RowLookedAt);
             }
-            let further = look_on(source, lots, lanes, carrier, entries, bid);
-            *standing = Standing::Bidding(further);
-            Ok(further)
+            look_on(source, lots, lanes, carrier, entries, bid);
+            Ok(*bid)
         }
         (Standing::Bidding(bid), Act::Settle) => {
             if bid.looked < row_length(source, carrier) {
                 return Err(Refusal::RowNotLookedAt);
             }
-            Ok(bid)
+            Ok(*bid)
         }
         (_, Act::Summon) => Err(Refusal::NotWaiting),
         (_, _) => Err(Refusal::NoOpenBid),

@@ -58,14 +58,14 @@ loop-place-preserved g c =
     let lots = c.args.lots.now in
     let ps = take m.jobs (prices_of lots) in
     let place = c.loop-place.place in
-    let from = c.args.bid.looked in
+    let from = c.args.bid.now.looked in
     let s = c.loop-place.seen in
     let e = c.unwrap_or-job.result in
     let inside : c.loop-place.place < length (row_of m c.args.carrier) = omega arith in
     let k = nth_of_all (λ e. e.0 < m.jobs) row place (0, 0) (row_known m sound c.args.carrier) inside in
     let known : c.unwrap_or-job.result.0 < m.jobs = omega (arith, k, ap (λ x. x.0) (c.unwrap_or-job.ensures ∙ ap (λ o. unwrap_or o (0, 0)) c.entry.ensures ∙ entry_or (g.S.Source.meaning c.args.source.now) c.args.carrier c.loop-place.place)) in
     let before : ℕ = place - from in
-    let next : (c.loop-place.place - c.args.bid.looked) + 1 ≡ c.loop-place.place + 1 - c.args.bid.looked = omega arith in
+    let next : (c.loop-place.place - c.args.bid.now.looked) + 1 ≡ c.loop-place.place + 1 - c.args.bid.now.looked = omega arith in
     let so_far = bid_in (place - from) s.net s.job s.worth s.runner_up in
     let price = price_in lots e.0 unsold (omega (arith, known, c.requires.few_jobs)) in
     let step = c.and-seen.ensures.seen (place - from) ∙ ap (λ p. weighed_at p so_far e) price ∙ weighed_cut m.jobs (prices_of lots) so_far e.0 e.1 known in
@@ -82,6 +82,6 @@ pub returns : goal.returns
 returns g c =
     let m = g.S.Source.meaning c.args.source.now in
     let s = c.loop-place.seen in
-    let count : c.loop-place.place - c.args.bid.looked ≡ c.min-count.result = omega arith in
-    let seen = subst (λ n. bid_in n s.net s.job s.worth s.runner_up ≡ fold (weighed (take m.jobs (prices_of c.args.lots.now))) fresh (take n (drop c.args.bid.looked (row_of m c.args.carrier)))) count c.loop-place.invariant.folded in
-    c.merged.ensures ∙ look_merged c.args.lanes c.min-count.result (take m.jobs (prices_of c.args.lots.now)) (row_of m c.args.carrier) c.args.bid _ (omega (arith, c.min-count.ensures, c.requires.long)) seen
+    let count : c.loop-place.place - c.args.bid.now.looked ≡ c.min-count.result = omega arith in
+    let seen = subst (λ n. bid_in n s.net s.job s.worth s.runner_up ≡ fold (weighed (take m.jobs (prices_of c.args.lots.now))) fresh (take n (drop c.args.bid.now.looked (row_of m c.args.carrier)))) count c.loop-place.invariant.folded in
+    c.merged.ensures ∙ look_merged c.args.lanes c.min-count.result (take m.jobs (prices_of c.args.lots.now)) (row_of m c.args.carrier) c.args.bid.now _ (omega (arith, c.min-count.ensures, c.requires.long)) seen

@@ -16,7 +16,7 @@ loop-index-preserved g c =
     let row = c.in-Some.row.now in
     record {
       shown = c.see-visitor.ensures ∙ ap (λ v. g.V.Visitor.shown v (pair_of (get_or row c.loop-index.index no_entry))) c.loop-index.invariant.shown
-          ∙ shown_more (λ v e. g.V.Visitor.shown v (pair_of e)) c.args.visitor row c.part_of-part.result.start c.loop-index.index _ no_entry (omega arith) (omega (arith, c.part_of-part.ensures.start, c.part_of-part.ensures.end)) refl;
+          ∙ shown_more (λ v e. g.V.Visitor.shown v (pair_of e)) c.args.visitor row c.args.from c.loop-index.index _ no_entry (omega arith) (omega (arith, c.min.ensures)) refl;
     }
 
 pub returns : goal.returns
@@ -25,9 +25,9 @@ returns g c =
     let row = c.in-Some.row.now in
     let shown = g.V.Visitor.shown in
     let there = row_there (sheet_rows s.heading s.starts.now s.entries.now) c.args.carrier row (sym (ap (option_map (λ x. x.now)) c.in-Some.is) ∙ c.row.ensures) in
-    let n : c.loop-index.index - c.part_of-part.result.start ≡ min c.args.count (length c.in-Some.row.now - c.part_of-part.result.start) = omega (arith, c.part_of-part.ensures.start, c.part_of-part.ensures.end) in
+    let n : c.loop-index.index - c.args.from ≡ min c.args.count (length c.in-Some.row.now - c.args.from) = omega (arith, c.min.ensures) in
     c.loop-index.invariant.shown
-    ∙ ap (λ k. fold (λ v e. shown v (pair_of e)) c.args.visitor (take k (drop c.part_of-part.result.start row))) n
-    ∙ ap (fold (λ v e. shown v (pair_of e)) c.args.visitor) (cut row c.args.from c.args.count c.part_of-part.result.start c.part_of-part.ensures.start)
+    ∙ ap (λ k. fold (λ v e. shown v (pair_of e)) c.args.visitor (take k (drop c.args.from row))) n
+    ∙ ap (fold (λ v e. shown v (pair_of e)) c.args.visitor) (cut row c.args.from c.args.count c.args.from (omega arith))
     ∙ sym (fold-map shown pair_of c.args.visitor (take c.args.count (drop c.args.from row)))
     ∙ ap (fold shown c.args.visitor) (sym (ap (λ r. take c.args.count (drop c.args.from r)) there ∙ part_paired row c.args.from c.args.count))
