@@ -117,83 +117,112 @@ fn least(mut call: impl FnMut()) -> Duration {
         .unwrap_or(once)
 }
 
-/// How many jobs the sheets of a kind have.
-fn jobs_of(carriers: usize, each: usize, kind: Kind) -> usize {
-    match kind {
-        Kind::Easy => (2 * carriers).clamp(each, 256),
-        Kind::Contested => (carriers / 2).max(each),
-    }
+/// A sheet of the table.
+struct Sample {
+    carriers: usize,
+    jobs: usize,
+    entries: usize,
+    kind: &'static str,
+    file: Vec<u8>,
 }
 
-/// Makes the call once, on a sheet of so many carriers with so many entries each: `bench once 128 32 contested`.
-/// `count.sh` counts the instructions of such a call.
-fn once(words: &[String]) -> Option<String> {
-    let [carriers, each, kind] = words else { return None };
-    let (carriers, each) = (carriers.parse().ok()?, each.parse().ok()?);
-    let kind = match kind.as_str() {
-        "easy" => Kind::Easy,
-        "contested" => Kind::Contested,
-        _ => return None,
-    };
+/// The sheets of the table, in its order.
+fn samples() -> Vec<Sample> {
     let mut draw = Draw(20261118);
-    let file = sheet_file(&mut draw, carriers, jobs_of(carriers, each, kind), each, kind);
-    let mut out = vec![0; 8320];
-    let told = usize::try_from(proved(&file, &mut out)).ok()?;
-    String::from_utf8_lossy(&out[..told]).lines().last().map(str::to_string)
+    let mut all = Vec::new();
+    for (carriers, each) in [(8, 4), (8, 8), (16, 4), (16, 8), (32, 8), (32, 16), (64, 8), (64, 32), (128, 8), (128, 32)] {
+        for kind in [Kind::Easy, Kind::Contested] {
+            let (name, jobs) = match kind {
+                Kind::Easy => ("easy", (2 * carriers).clamp(each, 256)),
+                Kind::Contested => ("contested", (carriers / 2).max(each)),
+            };
+            let file = sheet_file(&mut draw, carriers, jobs, each, kind);
+            all.push(Sample { carriers, jobs, entries: carriers * each, kind: name, file });
+        }
+    }
+    all
+}
+
+/// Compares small files, and says whether both agree on all of them.
+fn compare(out: &mut [u8]) -> bool {
+    let (count, differ) = compared(&mut Draw(20261118), out);
+    println!("{count} small files, whole, changed and cut: {differ} differ");
+    differ == 0
+}
+
+/// Writes the sheets of the table into a folder, each as a file whose name tells its place in the table.
+fn write_sheets(folder: &str) -> bool {
+    samples().iter().enumerate().all(|(i, sample)| {
+        let name = format!("{folder}/{i:02}-{}-{}x{}-{}.sheet", sample.kind, sample.carriers, sample.jobs, sample.entries);
+        std::fs::write(name, &sample.file).is_ok()
+    })
+}
+
+/// One call on the sheet in a file, so that its instructions can be counted.
+fn call_once(path: &str, call: fn(&[u8], &mut [u8]) -> i64, out: &mut [u8]) -> bool {
+    std::fs::read(path).is_ok_and(|file| std::hint::black_box(call(&file, out)) > 0)
+}
+
+/// Prints the listing of the sheet in a file.
+fn list(path: &str, out: &mut [u8]) -> bool {
+    let told = std::fs::read(path).map_or(-1, |file| proved(&file, out));
+    usize::try_from(told).is_ok_and(|len| {
+        print!("{}", String::from_utf8_lossy(&out[..len]));
+        true
+    })
+}
+
+/// The row of a sheet, and whether both calls list the same bytes of it.
+fn row(sample: &Sample, out: &mut [u8]) -> bool {
+    let text = plain::pair(&sample.file);
+    let same = same(&sample.file, out);
+    let text = text.unwrap_or_default();
+    let words: Vec<&str> = text.lines().last().unwrap_or("").split(' ').collect();
+    let mine = least(|| {
+        std::hint::black_box(proved(std::hint::black_box(&sample.file), out));
+    });
+    let theirs = least(|| {
+        let _ = std::hint::black_box(plain::pair(std::hint::black_box(&sample.file)));
+    });
+    let us = |d: Duration| d.as_nanos() as f64 / 1000.0;
+    println!(
+        "{:<9} {:<9} {:>7} {:>6} {:>5} {:>9.1} {:>9.1} {:>5.2}",
+        format!("{} x {}", sample.carriers, sample.jobs),
+        sample.kind,
+        sample.entries,
+        words.get(3).unwrap_or(&"-"),
+        words.get(5).unwrap_or(&"-"),
+        us(mine),
+        us(theirs),
+        us(mine) / us(theirs),
+    );
+    same && !text.is_empty() && !text.contains('?')
+}
+
+/// The table: a line for each sheet.
+fn table(out: &mut [u8]) -> bool {
+    println!("{:<9} {:<9} {:>7} {:>6} {:>5} {:>9} {:>9} {:>5}", "carriers", "kind", "entries", "awards", "stale", "proved us", "plain us", "ratio");
+    samples().iter().fold(true, |all, sample| row(sample, out) && all)
 }
 
 fn main() {
-    let words: Vec<String> = std::env::args().skip(1).collect();
-    if let [first, rest @ ..] = words.as_slice() {
-        let told = if first == "once" { once(rest) } else { None };
-        println!("{}", told.as_deref().unwrap_or("bench once CARRIERS ENTRIES easy|contested"));
-        return;
-    }
-    let mut draw = Draw(20261118);
     let mut out = vec![0; 8320];
-    let (count, differ) = compared(&mut draw, &mut out);
-    println!("{count} small files, whole, changed and cut: {differ} differ");
-    let mut failed = differ > 0;
-    println!("{:<12} {:<10} {:>9} {:>7} {:>8} {:>12} {:>12} {:>6}", "carriers", "kind", "entries", "awards", "stale", "proved us", "plain us", "ratio");
-    for (carriers, each) in [(8, 4), (8, 8), (16, 4), (16, 8), (32, 8), (32, 16), (64, 8), (64, 32), (128, 8), (128, 32)] {
-        for kind in [Kind::Easy, Kind::Contested] {
-            let jobs = jobs_of(carriers, each, kind);
-            let name = match kind {
-                Kind::Easy => "easy",
-                Kind::Contested => "contested",
-            };
-            let file = sheet_file(&mut draw, carriers, jobs, each, kind);
-            let text = plain::pair(&file);
-            let same = same(&file, &mut out);
-            failed |= !same || text.is_err();
-            let last = text.as_deref().unwrap_or("").lines().last().unwrap_or("").to_string();
-            let words: Vec<&str> = last.split(' ').collect();
-            let mine = least(|| {
-                std::hint::black_box(proved(std::hint::black_box(&file), &mut out));
-            });
-            let theirs = least(|| {
-                let _ = std::hint::black_box(plain::pair(std::hint::black_box(&file)));
-            });
-            let us = |d: Duration| d.as_nanos() as f64 / 1000.0;
-            let open = text.as_deref().unwrap_or("").matches('?').count();
-            println!(
-                "{:<12} {:<10} {:>9} {:>7} {:>8} {:>12.1} {:>12.1} {:>6.2}{}{}",
-                format!("{carriers} x {jobs}"),
-                name,
-                carriers * each,
-                words.get(3).unwrap_or(&"-"),
-                words.get(5).unwrap_or(&"-"),
-                us(mine),
-                us(theirs),
-                us(mine) / us(theirs),
-                if open > 0 { format!("  {open} cut off") } else { String::new() },
-                if same { "" } else { "  DIFFERENT" },
-            );
+    let args: Vec<String> = std::env::args().skip(1).collect();
+    let words: Vec<&str> = args.iter().map(String::as_str).collect();
+    let done = match words[..] {
+        ["compare"] => compare(&mut out),
+        ["table"] => table(&mut out),
+        ["sheets", folder] => write_sheets(folder),
+        ["list", path] => list(path, &mut out),
+        ["proved", path] => call_once(path, proved, &mut out),
+        ["plain", path] => call_once(path, |file, _| plain::pair(file).map_or(-1, |text| text.len() as i64), &mut out),
+        _ => {
+            eprintln!("bench compare, bench table, bench sheets FOLDER, bench list FILE, bench proved FILE, bench plain FILE");
+            false
         }
-    }
-    if failed {
-        println!("the listings differ");
+    };
+    if !done {
+        eprintln!("bench {}: failed", words.join(" "));
         std::process::exit(1);
     }
-    println!("all listings are the same, byte by byte");
 }

@@ -1,13 +1,22 @@
 #!/bin/sh
-# Counts the instructions of one call on a sheet of the benchmark, in all and by function: count.sh CARRIERS ENTRIES easy|contested.
-# Instructions repeat where times do not. It needs rustc and valgrind, and is no part of the gate.
+# Counts the instructions of one call on each sheet file of a folder, by callgrind, the proved call's and the plain one's.
+# A count is the same in every run, where a time is not. Usage: bench/count.sh BENCH FOLDER, where BENCH is the program
+# that bench/run.sh builds. It needs valgrind.
 set -eu
-root=$(cd "$(dirname "$0")/.." && pwd)
+bench=$1
 work=$(mktemp -d)
 trap 'rm -rf "$work"' EXIT
-"$root/tools/staticlib.sh" "$work"
-rustc -O --edition 2024 -o "$work/bench" "$root/bench/bench.rs" -C link-arg="$work/libpairing.a"
-valgrind --tool=callgrind --callgrind-out-file="$work/counts" --toggle-collect=torwhisk_pair \
-    "$work/bench" once "${1:-128}" "${2:-32}" "${3:-contested}" >"$work/log" 2>&1 || { cat "$work/log"; exit 1; }
-grep awards "$work/log"
-callgrind_annotate --threshold=99.9 "$work/counts" | grep -E '^ *[0-9,]+ \(|Ir' | cut -c 1-140
+
+# What is collected is what runs inside the function of that name, and what it calls.
+count() {
+    valgrind --tool=callgrind --callgrind-out-file=/dev/null --collect-atstart=no --toggle-collect="$1" "$bench" "$2" "$3" 2>"$work/log" ||
+        { cat "$work/log" >&2; exit 1; }
+    sed -n 's/.*Collected : //p' "$work/log"
+}
+
+printf '%12s %12s\n' 'proved instr' 'plain instr'
+for sheet in "$2"/*.sheet; do
+    proved=$(count torwhisk_pair proved "$sheet")
+    plain=$(count 'bench::plain::pair' plain "$sheet")
+    printf '%12s %12s\n' "$proved" "$plain"
+done
