@@ -1,35 +1,91 @@
 -- What the checks of a sheet come to, place by place.
 use Rattle.std.proofs.Common.{◌≡◌, ℕ, zero, suc, ◌+◌, ◌-◌, ◌<◌, ◌≤◌, Bool, true, false, ◌&&◌, ◌||◌, eqb, ltb, leb, List, length, get_or, Some, None, Option, sym, refl, ap, ◌∙◌, subst, ⊎_elim, add-zero, zero-add, arith}
 use Rattle.std.specs.Bool.{MatchBool}
-use Rattle.std.specs.List.{IsAnyAnswer, IsAllAdjacentAnswer}
+use Rattle.std.specs.List.{IsAllAdjacentAnswer}
 use Rattle.std.specs.List.Sorted.{IsNonDecreasing}
 use Rattle.std.specs.Ordering.{is_le, is_some_and, nat_cmp}
 use Rattle.std.proofs.lemmas.List.Sorted.{non_decreasing_from_is_sorted}
-use Rattle.std.proofs.lemmas.List.Elements.{contains_decides}
-use Rattle.std.proofs.lemmas.Bool.{both_ways, eq-eqb, le-ltb, cases_Bool}
-use Rattle.std.proofs.lemmas.Bool.Decides.{same_from_decides, Decides-eqb}
+use Rattle.std.proofs.lemmas.List.{get_or_default}
+use Rattle.std.proofs.lemmas.Bool.{both_ways, eq-eqb, ne_eqb, le-ltb, lt-ltb, or_left, or_right, cases_Bool, cases_eq, cases_lt}
+use Rattle.std.proofs.Math.Bool.{or-false}
 use Rattle.sources.specs.declared.form.Entry.{Entry}
 use Rattle.sources.specs.declared.form.Heading.{Heading}
 use Rattle.refusals.specs.declared.Refusal.{Refusal}
-use Rattle.sources.specs.Sheets.{never_falls, last_of, starts_good, has_start, job_at, or_else, first_refusal}
+use Rattle.sources.specs.Sheets.{never_falls, last_of, starts_good, has_start, job_at, in_order, or_else, first_refusal}
 use Rattle.sources.specs.Laws.Starts.{never_falls_lem}
 use Rattle.sources.specs.Laws.SheetSound.{has_start_lem}
 
-pub contains_is : (starts : List ℕ) (k : ℕ) (r : Bool) → IsAnyAnswer (λ y t. eqb y k ≡ t) starts r → r ≡ has_start starts k
-contains_is starts k r h = same_from_decides r (has_start starts k) (contains_decides eqb Decides-eqb starts k r h) (has_start_lem starts k)
+-- ---- the row starts, gone through along with the entries
 
-pub or_taken : (r h b : Bool) → r ≡ h → r ≡ true → r ≡ (h || b)
-or_taken r true b e t = e
-or_taken r false b e t = absurd (both_ways r e t)
+pub passed_more : (starts : List ℕ) (from next k : ℕ) → ((j : ℕ) → from ≤ j → j < next → get_or starts j 0 < k) → get_or starts next 0 < k → (j : ℕ) → from ≤ j → j < next + 1 → get_or starts j 0 < k
+passed_more starts from next k before here j l m =
+    ⊎_elim (λ (e : j < next). before j l e) (λ (e : next ≤ j). let q : j ≡ next = omega arith in rw q here) (cases_lt j next)
 
-pub or_left_out : (r h b : Bool) → r ≡ h → r ≡ false → b ≡ (h || b)
-or_left_out r true b e t = absurd (both_ways r t e)
-or_left_out r false b e t = refl
+-- what is passed for one entry is passed for the next, too
+pub passed_on : (starts : List ℕ) (from next k : ℕ) → ((j : ℕ) → j < from → get_or starts j 0 < k) → ((j : ℕ) → from ≤ j → j < next → get_or starts j 0 < k) → (j : ℕ) → j < next → get_or starts j 0 < k + 1
+passed_on starts from next k before more j l =
+    ⊎_elim (λ (e : j < from). omega (arith, before j e)) (λ (e : from ≤ j). omega (arith, more j e l)) (cases_lt j from)
 
--- nothing stands before the first entry
-pub at_first : (es : List Entry) (k : ℕ) → k ≤ 0 → ltb 0 k ≡ ltb (job_at es (k - 1)) (job_at es k)
-at_first es zero l = sym (le-ltb (job_at es 0) (job_at es 0) (omega arith))
-at_first es (suc k) l = absurd (omega arith)
+module _ (starts : List ℕ) (rises : (i : ℕ) → i + 1 < length starts → get_or starts i 0 ≤ get_or starts (i + 1) 0) where
+  rises_to : (i d : ℕ) → i + d < length starts → get_or starts i 0 ≤ get_or starts (i + d) 0
+  rises_to i zero l = rw add-zero (omega arith)
+  rises_to i (suc d) l =
+      let e : (i + d) + 1 ≡ i + suc d = omega arith in
+      let t : get_or starts (i + d) 0 ≤ get_or starts ((i + d) + 1) 0 = rises (i + d) (omega arith) in
+      rw (← e) (omega (arith, rises_to i d (omega arith), t))
+
+  -- the first start that is not below k is the only one that may be k
+  no_start : (next k : ℕ) → ((j : ℕ) → j < next → get_or starts j 0 < k) → (next < length starts → k < get_or starts next 0) → has_start starts k ≡ false
+  no_start next k passed beyond =
+      ⊎_elim
+      (λ t.
+      let w = (has_start_lem starts k).0 t in
+      let here : get_or starts w.0 0 ≡ k = w.2 0 in
+      absurd (⊎_elim (λ (e : w.0 < next). omega (arith, passed w.0 e))
+      (λ (e : next ≤ w.0).
+      let q : next + (w.0 - next) ≡ w.0 = omega arith in
+      let r : get_or starts next 0 ≤ get_or starts w.0 0 = rw q at (rises_to next (w.0 - next) (omega arith)) in
+      omega (arith, beyond (omega arith)))
+      (cases_lt w.0 next)))
+      (λ f. f)
+      (cases_Bool (has_start starts k))
+
+  start_here : (next k : ℕ) → next < length starts → get_or starts next 0 ≡ k → has_start starts k ≡ true
+  start_here next k l e = (has_start_lem starts k).1 (next, l, λ d. get_or_default starts next d 0 l ∙ e)
+
+  pub first_start : (next k : ℕ) → ((j : ℕ) → j < next → get_or starts j 0 < k) → k ≤ get_or starts next 0 → next < length starts → eqb (get_or starts next 0) k ≡ has_start starts k
+  first_start next k passed reached l =
+      ⊎_elim
+      (λ e. eq-eqb (get_or starts next 0) k e ∙ sym (start_here next k l e))
+      (λ n. ne_eqb (get_or starts next 0) k n ∙ sym (no_start next k passed (λ _. omega arith)))
+      (cases_eq (get_or starts next 0) k)
+
+  pub past_starts : (next k : ℕ) → ((j : ℕ) → j < next → get_or starts j 0 < k) → length starts ≤ next → ltb next (length starts) ≡ has_start starts k
+  past_starts next k passed l = le-ltb next (length starts) l ∙ sym (no_start next k passed (λ m. absurd (omega arith)))
+
+-- ---- the order of jobs
+
+-- Jobs from a least one on are in order at k, and jobs below it are not above the one before.
+pub record Least (starts : List ℕ) (es : List Entry) (k least : ℕ) : Type 0 where
+  pub enough : (job : ℕ) → least ≤ job → (has_start starts k || ltb (job_at es (k - 1)) job) ≡ true
+  pub needed : (job : ℕ) → job < least → ltb (job_at es (k - 1)) job ≡ false
+
+pub least_first : (starts : List ℕ) (es : List Entry) → has_start starts 0 ≡ true → Least starts es 0 0
+least_first starts es begins = record {
+  enough = λ job l. or_left (has_start starts 0) (ltb (job_at es (0 - 1)) job) begins;
+  needed = λ job l. absurd (omega arith);
+}
+
+pub least_next : (starts : List ℕ) (es : List Entry) (k : ℕ) → Least starts es (k + 1) (job_at es k + 1)
+least_next starts es k =
+    let e : k + 1 - 1 ≡ k = omega arith in
+    record {
+      enough = λ job l. or_right (has_start starts (k + 1)) (ltb (job_at es (k + 1 - 1)) job) (rw e (lt-ltb (job_at es k) job (omega arith)));
+      needed = λ job l. rw e (le-ltb (job_at es k) job (omega arith));
+    }
+
+pub ordered_as : (starts : List ℕ) (es : List Entry) (k least : ℕ) (r : Bool) → Least starts es k least → job_at es k < least → r ≡ has_start starts k → r ≡ in_order starts es k
+ordered_as starts es k least r lst l e = e ∙ sym (ap (λ b. has_start starts k || b) (lst.needed (job_at es k) l) ∙ or-false (has_start starts k))
 
 falls : (starts : List ℕ) (n i : ℕ) → i < n → get_or starts (i + 1) 0 < get_or starts i 0 → never_falls starts n ≡ false
 falls starts n i l below =

@@ -1,6 +1,6 @@
 // What filling a sheet checks.
-ghost use Rattle.std.specs.Prelude.{◌≡◌, ◌-◌, ◌<◌, ◌≤◌, length, nat_lt};
-ghost use Rattle.sources.specs.Sheets.{within_limits, starts_good, in_order, entry_refusal, fill_verdict, job_at};
+ghost use Rattle.std.specs.Prelude.{◌≡◌, ℕ, ◌+◌, ◌<◌, ◌≤◌, true, length, slice_index};
+ghost use Rattle.sources.specs.Sheets.{within_limits, starts_good, has_start, entry_refusal, fill_verdict};
 
 use crate::form::{Entry, Heading};
 use refusals::Refusal;
@@ -34,35 +34,53 @@ fn starts_good(heading: Heading, starts: &[usize], count: usize) -> bool
     starts.is_sorted() && starts[heading.carriers] <= count
 }
 
-// Whether the job of the entry at k is above that of the entry before it; nothing stands before the first.
-fn rises(entries: &[Entry], k: usize) -> bool
-    requires { k < length entries.now }
-    ensures { result ≡ nat_lt (job_at entries.now (k - 1)) (job_at entries.now k) }
+// The place of the first row start, from a place on, that is not below k.
+fn start_from(starts: &[usize], from: usize, k: usize) -> usize
+    ensures passed { (j : ℕ) → from ≤ j → j < result → slice_index starts.now j < k }
+    ensures reached { result < length starts.now → k ≤ slice_index starts.now result }
 {
-    k > 0 && entries[k - 1].job < entries[k].job
+    let mut next = from;
+    while next < starts.len() && starts[next] < k {
+        next += 1;
+    }
+    next
 }
 
-// Whether the entry at k begins its row, or its job is above that of the entry before it.
-fn in_order(starts: &[usize], entries: &[Entry], k: usize) -> bool
-    requires { k < length entries.now }
-    ensures { result ≡ in_order starts.now entries.now k }
+// Whether a row starts at k, where `next` is the place of the first row start that is not below k.
+fn starts_at(starts: &[usize], next: usize, k: usize) -> bool
+    requires rises { (i : ℕ) → i + 1 < length starts.now → slice_index starts.now i ≤ slice_index starts.now (i + 1) }
+    requires passed { (j : ℕ) → j < next → slice_index starts.now j < k }
+    requires reached { next < length starts.now → k ≤ slice_index starts.now next }
+    ensures { result ≡ has_start starts.now k }
 {
-    // The starts are searched last, for the entries that do not rise: one for each row of a good table.
-    rises(entries, k) || starts.contains(&k)
+    next < starts.len() && starts[next] == k
 }
 
 // What the first bad entry is refused for. An Option, and no Result: the invariant of `Sheet` names this answer.
 fn entry_refusal(heading: Heading, starts: &[usize], entries: &[Entry]) -> Option<Refusal>
+    requires begins { has_start starts.now 0 ≡ true }
+    requires rises { (i : ℕ) → i + 1 < length starts.now → slice_index starts.now i ≤ slice_index starts.now (i + 1) }
     ensures { result ≡ entry_refusal heading starts.now entries.now }
 {
+    // The least job that the next entry may have in the same row, and the place of the first start that is not yet passed: since starts
+    // and places rise, both tables are gone through once.
+    let mut least = 0;
+    let mut next = 0;
     // A loop over the entry table with its index: a form that the project keeps (docs/DECISIONS.md).
     for (k, entry) in entries.iter().enumerate() {
-        if entry.job >= heading.jobs || !in_order(starts, entries, k) {
+        if entry.job < least {
+            next = start_from(starts, next, k);
+            if !starts_at(starts, next, k) {
+                return Some(Refusal::JobOutOfOrder);
+            }
+        }
+        if entry.job >= heading.jobs {
             return Some(Refusal::JobOutOfOrder);
         }
         if entry.worth == 0 || entry.worth > heading.ceiling {
             return Some(Refusal::WorthOutside);
         }
+        least = entry.job + 1;
     }
     None
 }
