@@ -159,9 +159,18 @@ module _ (bytes groups : List ℕ) (at : ℕ) (are : groups ≡ take 6 (drop at 
           let e : 6 - (k + 1) ≡ 5 - k = omega arith in
           rw (e, drop_more (drop at bytes) k 0 group_inside, ← group_is, left k few) (decoded_more (5 - k) b (drop (k + 1) (drop at bytes)) large)
 
--- a number of one group
-pub single_read : (bytes : List ℕ) (at b : ℕ) → at < length bytes → b ≡ get_or bytes at 0 → b < 128 → Ok (b, at + 1) ≡ read_at bytes at
-single_read bytes at b inside is small =
-    let there : drop at bytes ≡ b ∷ drop (at + 1) bytes = drop_more bytes at 0 inside ∙ ap (λ x. x ∷ drop (at + 1) bytes) (sym is) in
-    let n : length bytes - length (drop (at + 1) bytes) ≡ at + 1 = omega (arith, length-drop (at + 1) bytes) in
-    sym (ap (λ xs. placed bytes at (decoded_in 6 xs)) there ∙ ap (placed bytes at) (decoded_last 5 b (drop (at + 1) bytes) small) ∙ ap (λ m. Ok (b, m)) n)
+-- numbers of few groups, group by group
+module _ (bytes : List ℕ) (at b : ℕ) (inside : at < length bytes) (is : b ≡ get_or bytes at 0) where
+  group_there : drop at bytes ≡ b ∷ drop (at + 1) bytes
+  group_there = drop_more bytes at 0 inside ∙ ap (λ x. x ∷ drop (at + 1) bytes) (sym is)
+
+  pub group_last : (k : ℕ) → b < 128 → decoded_in (suc k) (drop at bytes) ≡ Ok (b, drop (at + 1) bytes)
+  group_last k small = ap (decoded_in (suc k)) group_there ∙ decoded_last k b (drop (at + 1) bytes) small
+
+  pub group_before : (k n : ℕ) (left : List ℕ) → 128 ≤ b → (n ≡ 0 → ⊥) → decoded_in k (drop (at + 1) bytes) ≡ Ok (n, left) → decoded_in (suc k) (drop at bytes) ≡ Ok (b - 128 + 128 * n, left)
+  group_before k n left large some rest = ap (decoded_in (suc k)) group_there ∙ decoded_more k b (drop (at + 1) bytes) large ∙ ap (before b) rest ∙ before_some b n left some
+
+pub read_is : (bytes : List ℕ) (at m n next end : ℕ) → decoded_in 6 (drop at bytes) ≡ Ok (m, drop end bytes) → n ≡ m → next ≡ end → end ≤ length bytes → Ok (n, next) ≡ read_at bytes at
+read_is bytes at m n next end e value place inside =
+    let l : length bytes - length (drop end bytes) ≡ end = omega (arith, length-drop end bytes) in
+    rw (value, place) (sym (ap (placed bytes at) e ∙ ap (λ x. Ok (m, x)) l))

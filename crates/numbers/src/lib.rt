@@ -17,9 +17,42 @@ pub fn read_number(bytes: &[u8], at: usize) -> Result<(u64, usize), Fault>
     ensures value { result ≡ read_at bytes.now at }
     ensures exact { ReadsExactly bytes.now at result }
 {
-    if let Some(read) = read_single(bytes, at) {
+    if let Some(read) = read_few(bytes, at) {
         return Ok(read);
     }
+    read_any(bytes, at)
+}
+
+// Reads a number of at most three groups, as most are, without a loop; nothing where it has more, or is faulty.
+fn read_few(bytes: &[u8], at: usize) -> Option<(u64, usize)>
+    ensures { (x : ℕ × ℕ) → result ≡ Some x → Ok x ≡ read_at bytes.now at }
+{
+    let first = u64::from(*bytes.get(at)?);
+    if first < 128 {
+        return Some((first, at + 1));
+    }
+    let second = u64::from(*bytes.get(at + 1)?);
+    if second < 128 {
+        if second == 0 {
+            return None;
+        }
+        return Some((first - 128 + second * 128, at + 2));
+    }
+    let third = u64::from(*bytes.get(at + 2)?);
+    if 0 < third && third < 128 {
+        return Some((
+            first - 128 + (second - 128) * 128 + third * 128 * 128,
+            at + 3,
+        ));
+    }
+    None
+}
+
+// Reads any number, group by group.
+fn read_any(bytes: &[u8], at: usize) -> Result<(u64, usize), Fault>
+    ensures value { result ≡ read_at bytes.now at }
+    ensures exact { ReadsExactly bytes.now at result }
+{
     let groups = groups_from(bytes, at);
     let mut value = 0;
     let mut scale = 1;
@@ -38,18 +71,6 @@ pub fn read_number(bytes: &[u8], at: usize) -> Result<(u64, usize), Fault>
         return Err(Fault::at(Refusal::NumberCut, at));
     }
     Err(Fault::at(Refusal::NumberTooLong, at))
-}
-
-// The same of a number of one group, as most are; nothing where more groups follow, or none is there.
-fn read_single(bytes: &[u8], at: usize) -> Option<(u64, usize)>
-    ensures { (x : ℕ × ℕ) → result ≡ Some x → Ok x ≡ read_at bytes.now at }
-{
-    let group = *bytes.get(at)?;
-    if group < 128 {
-        Some((u64::from(group), at + 1))
-    } else {
-        None
-    }
 }
 
 // The bytes from a place on, and no more of them than a number may have.

@@ -1,7 +1,7 @@
 use Rattle.std.proofs.Common.{◌≡◌, ◌-◌, ◌^◌, ◌<◌, drop}
 use Rattle.numbers.specs.Groups.{decoded_in}
 use Rattle.numbers.proofs.Reading.{after}
-use Rattle.numbers.proofs.read_number.Given as goal
+use Rattle.numbers.proofs.read_any.Given as goal
 
 abbrev pub invariant-loop-k : goal.invariant-loop-k
 invariant-loop-k l =
