@@ -1,7 +1,7 @@
 // Pairs the carriers and jobs of a sheet file.
 #![tactic(auto)]
 
-ghost use Rattle.std.specs.Prelude.{◌≡◌, ℕ, ◌≤◌, List, length, Ok};
+ghost use Rattle.std.specs.Prelude.{◌≡◌, ℕ, ◌*◌, ◌≤◌, ◌⊎◌, List, length, Ok};
 ghost use Rattle.numbers.specs.Writing.{over};
 ghost use Rattle.outputs.specs.Puts.{Puts};
 ghost use Rattle.pairing.specs.Listing.{refused_line};
@@ -27,9 +27,6 @@ mod putting;
 // The most bytes that are printed: 64 for each of 128 carriers, and 128.
 pub const MOST_TEXT: usize = 8320;
 
-// The entries of a small table.
-const FEW_ENTRIES: usize = 512;
-
 // Pairs the carriers and jobs of a sheet file, and writes the listing. It gives the listing's length.
 // Refused: what the load refuses; 4 if the ceiling, times (carriers + 1), is above 2^36; and last of all 12 if the listing does not fit.
 // Bytes behind the listing are not touched, and none where it is refused.
@@ -40,37 +37,24 @@ pub fn list_pairs(sheet: &[u8], out: &mut [u8]) -> Result<usize, Refusal>
     ensures paired { (text : List ℕ) → listed sheet.now ≡ Ok text → ListsFile sheet.now text }
     ensures short { AtMost 8320 (listed sheet.now) }
 {
-    // Tables of a fixed size, here and below: no heap is used, since C calls it. A short file gets a small one, since it takes
-    // longer to fill a table with zeros than to pair a small sheet.
-    if sheet.len() <= 2 * FEW_ENTRIES {
-        list_short(sheet, out)
-    } else {
-        list_long(sheet, out)
+    // A smaller table where it suffices, since it takes longer to fill a large one with zeros than to pair a small sheet.
+    match sheet.len() {
+        ..=256 => list_in::<128>(sheet, out),
+        ..=2048 => list_in::<1024>(sheet, out),
+        _ => list_in::<MOST_ENTRIES>(sheet, out),
     }
 }
 
-// The same of a short file.
-fn list_short(sheet: &[u8], out: &mut [u8]) -> Result<usize, Refusal>
-    requires { length sheet.now ≤ 1024 }
+// The same with a table of so many entries. A file has at most one for each two of its bytes.
+// Tables of a fixed size, here and below: no heap is used, since C calls it.
+fn list_in<const ENTRIES: usize>(sheet: &[u8], out: &mut [u8]) -> Result<usize, Refusal>
+    requires room { ENTRIES ≡ 4096 ⊎ (length sheet.now ≤ 2 * ENTRIES) × (ENTRIES ≤ 4096) }
     ensures answer { result ≡ sized (listed_within sheet.now (length out.old)) }
     ensures after { out.new ≡ put_into out.old (listed_within sheet.now (length out.old)) }
     ensures short { AtMost 8320 (listed sheet.now) }
 {
     let mut starts = [0usize; MOST_STARTS];
-    let mut entries = [Entry { job: 0, worth: 0 }; FEW_ENTRIES];
-    let heading = load_once(sheet, &mut starts, &mut entries).map_err(|fault| fault.refusal)?;
-    let source = sheet_over(heading, &starts, &entries).map_err(|fault| fault.refusal)?;
-    list_source(&source, out)
-}
-
-// The same of any file.
-fn list_long(sheet: &[u8], out: &mut [u8]) -> Result<usize, Refusal>
-    ensures answer { result ≡ sized (listed_within sheet.now (length out.old)) }
-    ensures after { out.new ≡ put_into out.old (listed_within sheet.now (length out.old)) }
-    ensures short { AtMost 8320 (listed sheet.now) }
-{
-    let mut starts = [0usize; MOST_STARTS];
-    let mut entries = [Entry { job: 0, worth: 0 }; MOST_ENTRIES];
+    let mut entries = [Entry { job: 0, worth: 0 }; ENTRIES];
     let heading = load_once(sheet, &mut starts, &mut entries).map_err(|fault| fault.refusal)?;
     let source = sheet_over(heading, &starts, &entries).map_err(|fault| fault.refusal)?;
     list_source(&source, out)
