@@ -1,12 +1,18 @@
 -- The two calls: what they answer, what they lead to, and that the pairing is then worth most.
-use Rattle.std.proofs.Common.{◌≡◌, ℕ, ◌+◌, ◌*◌, ◌^◌, ◌<◌, min, Bool, true, false, cond, ltb, ◌≢◌, List, length, get_or, set, Some, None, Ok, Err, Option, Result, sym, refl, ap, ◌∙◌, subst, ⊎_elim, mul-zero, arith, below_more, w8, Fits}
+use Rattle.std.proofs.Common.{◌≡◌, ℕ, ◌+◌, ◌*◌, ◌^◌, ◌<◌, ◌≤◌, min, Bool, true, false, cond, leb, ltb, eqb, ◌&&◌, ◌≢◌, List, [], ◌∷◌, length, get_or, set, Some, None, Ok, Err, Option, Result, sym, refl, ap, ◌∙◌, subst, ⊎_elim, mul-zero, arith, below_more, w8, Fits}
 use Rattle.std.proofs.ByRecursion.{All-get_or}
 use Rattle.std.proofs.lemmas.List.{ext_get_or, get_or_past, get_or-set_other, get_or-set_same, length-map}
-use Rattle.std.proofs.lemmas.Bool.{cases_lt, cond_both, cond-true, lt-ltb}
+use Rattle.std.proofs.lemmas.Bool.{and_parts, cases_lt, cond_both, cond-true, leb-true, lt-ltb}
+use Rattle.std.proofs.lemmas.Nat.{mul-le}
+use Rattle.std.proofs.Math.Nat.{min-eq_left, min-eq_right, mul_comm}
+use Rattle.std.specs.List.{AllByRecursion}
+use Rattle.std.specs.Prelude.{OnOk}
 use Rattle.refusals.specs.declared.Fault.{Fault}
 use Rattle.refusals.specs.declared.Refusal.{Refusal}
 use Rattle.refusals.specs.declared.Refusal.TheVariants.{CountsOutside, NoSuchCarrier}
-use Rattle.sources.specs.Meaning.{Meaning, Sound, worth_of}
+use Rattle.sources.specs.Meaning.{Meaning, Sound, row_of, worth_in, worth_of}
+use Rattle.sources.specs.Tables.{heading_of}
+use Rattle.sources.proofs.Reading.{row_within}
 use Rattle.sources.specs.Laws.LayersSound.{times_sound}
 use Rattle.sources.specs.Layers.{scaled, times_of}
 use Rattle.sources.proofs.Worths.{worth_times}
@@ -29,6 +35,7 @@ use Rattle.auction.proofs.Reaching.{reached_laws}
 use Rattle.hall.specs.declared.books.Books.{Books}
 use Rattle.hall.specs.InBooks.{tally_of}
 use Rattle.hall.specs.Replayed.{Performed, Replayed}
+use Rattle.pairing.specs.Held.{HeldUnderTimes}
 use Rattle.pairing.specs.Listing.{listing}
 use Rattle.sheetfile.specs.Reading.{loaded_within}
 use Rattle.sheetfile.proofs.Filling.{within_file}
@@ -91,6 +98,37 @@ auction_is : (m : Meaning) → auctioned m ≡ once (running m) (start_tally_by 
 unfolding auctioned tally_from tally_by
 auction_is m = refl
 
+-- a start that was not refused found the ceiling within the limits
+not_refused : (f : Tally → Tally) (new t : Tally) (b : Bool) (r : Result (Unit {0}) Refusal) → r ≡ start_by b → once f (start_tally_by r new None) ≡ Some t → b ≡ true
+not_refused f new t true r by is = refl
+not_refused f new t false (Ok x) by is = absurd (let z : ◌≡◌ {A = ℕ} 0 1 = cc in omega arith)
+not_refused f new t false (Err e) by is = absurd (let z : ◌≡◌ {A = ℕ} 0 1 = cc in omega arith)
+
+ceiling_low : (m : Meaning) (t : Tally) → auctioned m ≡ Some t → (timed m).ceiling ≤ 2 ^ 36
+unfolding start_is
+ceiling_low m t e =
+    let h = heading_of (timed m) in
+    let b = not_refused (running m) (begun m) t (start_is (timed m)).0 (start_answer 1 8 (timed m)) (start_is (timed m)).1 (sym (auction_is m) ∙ e) in
+    let p = and_parts (leb 1 h.carriers && leb h.carriers 128) ((leb 1 h.jobs && leb h.jobs 256) && leb h.ceiling (2 ^ 36)) b in
+    let q = and_parts (leb 1 h.jobs && leb h.jobs 256) (leb h.ceiling (2 ^ 36)) p.1 in
+    leb-true h.ceiling (2 ^ 36) q.1
+
+-- no worth is above the ceiling
+worth_within : (c : ℕ) (row : List (ℕ × ℕ)) (j : ℕ) → AllByRecursion (λ e. e.1 ≤ c) row → worth_in row j ≤ c
+worth_within c [] j all = omega arith
+worth_within c (e ∷ row) j all = cond_both (eqb e.0 j) e.1 (worth_in row j) (λ w. w ≤ c) (λ _. all.0) (λ _. worth_within c row j all.1)
+
+-- so no worth is capped
+not_capped : (g w c : ℕ) → w ≤ c → scaled g c ≤ 2 ^ 36 → scaled g w ≡ w * g
+not_capped g w c l low =
+    let some : g * c ≤ 2 ^ 36 = ⊎_elim
+    (λ (h : g * c < 2 ^ 60). let e = min-eq_left {n = g * c} {m = 2 ^ 60} (omega arith) in omega (arith, e))
+    (λ (h : 2 ^ 60 ≤ g * c). let e = min-eq_right {n = 2 ^ 60} {m = g * c} h in absurd (omega (arith, e)))
+    (cases_lt (g * c) (2 ^ 60)) in
+    let below = mul-le g w g c (omega arith) l in
+    let e = min-eq_left {n = g * w} {m = 2 ^ 60} (omega (arith, below, some)) in
+    e ∙ mul_comm g w
+
 -- what is worth something under a factor is so below it
 times_some : (g w : ℕ) → 0 < scaled g w → 0 < w
 times_some g w some =
@@ -122,6 +160,21 @@ pairs_well m sound t e =
       best_of_all = λ all p pairing. law.exact m (m.carriers + 1) refl above p pairing
           (λ i j _. ⊎_elim (λ inside. All-get_or ServedOrOut t.standings i Out inside all) (λ past. subst ServedOrOut (sym (get_or_past t.standings i Out past)) tt) (cases_lt i (length t.standings)));
     }
+
+-- what served carriers are told is the sheet's worth, times (carriers + 1)
+held_timed : (m : Meaning) → Sound m → (t : Tally) → auctioned m ≡ Some t → HeldUnderTimes m t.standings
+held_timed m sound t e i h at =
+    let law = auction_laws m sound t e in
+    (law.slack i h at).worth_is ∙ worth_times (m.carriers + 1) m i h.job
+    ∙ not_capped (m.carriers + 1) (worth_of m i h.job) m.ceiling (worth_within m.ceiling (row_of m i) h.job (row_within m sound i)) (ceiling_low m t e)
+    ∙ ap (λ k. worth_of m i h.job * (k + 1)) (sym law.own.sized ∙ length-map t.standings job_served)
+
+pub ends_timed : (m : Meaning) → Sound m → (r : Result Counts Refusal) (ss : List Standing) → Ends (auctioned m) r ss → OnOk r (HeldUnderTimes m ss)
+ends_timed m sound r ss ends = go (auctioned m) refl ends
+  where
+    go : (o : Option Tally) → auctioned m ≡ o → Ends o r ss → OnOk r (HeldUnderTimes m ss)
+    go None e h = subst (λ x. OnOk x (HeldUnderTimes m ss)) (sym h) tt
+    go (Some t) e h = subst (λ x. OnOk x (HeldUnderTimes m ss)) (sym h.0) (subst (HeldUnderTimes m) (sym h.1) (held_timed m sound t e))
 
 -- a listing is that of the tally that the auction ends with
 lists_pairs : (m : Meaning) → Sound m → (text : List ℕ) → (o : Option Tally) → auctioned m ≡ o → listing_after m o ≡ Ok text → ListsPairs m text

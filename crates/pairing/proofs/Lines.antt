@@ -1,12 +1,15 @@
 -- Lines that are put one behind the other, and what carriers hold, added up.
-use Rattle.std.proofs.Common.{◌≡◌, ℕ, suc, ◌+◌, ◌<◌, List, [], ◌∷◌, ◌++◌, map, length, get_or, take, Some, None, Option, sym, ap, ◌∙◌, refl, arith}
-use Rattle.std.specs.List.{sum_by, enumerate_from}
+use Rattle.std.proofs.Common.{◌≡◌, ℕ, suc, ◌+◌, ◌/◌, ◌<◌, List, [], ◌∷◌, ◌++◌, map, length, get_or, take, Some, None, Option, sym, ap, ◌∙◌, refl, arith}
+use Rattle.std.specs.List.{sum_by}
 use Rattle.std.proofs.lemmas.List.Sums.{sum_by-cons}
 use Rattle.std.proofs.lemmas.List.{append_assoc, append-nil, length-take-le, take_more}
-use Rattle.sources.specs.Meaning.{Meaning}
+use Rattle.std.proofs.Math.Nat.{mul-div_cancel}
+use Rattle.sources.specs.Meaning.{Meaning, row_of, worth_of}
 use Rattle.auction.specs.declared.standing.Standing.{Standing}
+use Rattle.auction.specs.declared.standing.Standing.TheVariants.{Waiting, Bidding, Served, Out}
 use Rattle.auction.specs.Laws.{given_worth, job_served, worth_along}
 use Rattle.pairing.specs.Listing.{carrier_line, carrier_lines}
+use Rattle.pairing.specs.Held.{HeldUnderTimes, worth_told}
 
 lines_push : (m : Meaning) (i : ℕ) (ss : List Standing) (s : Standing) → carrier_lines m i (ss ++ s ∷ []) ≡ carrier_lines m i ss ++ carrier_line m (i + length ss) s
 lines_push m i [] s =
@@ -28,21 +31,30 @@ pub along_none : (rows : List (List (ℕ × ℕ))) → worth_along rows [] ≡ 0
 along_none [] = refl
 along_none (r ∷ rows) = refl
 
+along_past : (p : List (Option ℕ)) → worth_along [] p ≡ 0
+along_past p = refl
+
 given_none : (o : Option ℕ) → given_worth [] o ≡ 0
 given_none None = refl
 given_none (Some j) = refl
 
--- what all carriers are given comes to what the pairing is worth
-pub along_all : (row : ℕ → List (ℕ × ℕ)) (rows : List (List (ℕ × ℕ))) (i : ℕ) (ss : List Standing) → ((k : ℕ) → row (i + k) ≡ get_or rows k []) →
-    sum_by (λ (p : ℕ × Standing). given_worth (row p.0) (job_served p.1)) (enumerate_from i ss) ≡ worth_along rows (map job_served ss)
-along_all row rows i [] h = sym (along_none rows)
-along_all row [] i (s ∷ ss) h =
-    let head : row i ≡ [] = ap row (omega arith) ∙ h 0 in
-    let none : given_worth (row i) (job_served s) ≡ 0 = ap (λ r. given_worth r (job_served s)) head ∙ given_none (job_served s) in
-    let rest = along_all row [] (i + 1) ss (λ k. ap row (omega arith) ∙ h (suc k)) in
-    sum_by-cons (λ (p : ℕ × Standing). given_worth (row p.0) (job_served p.1)) (i, s) (enumerate_from (i + 1) ss) ∙ omega (arith, none, rest)
-along_all row (r ∷ rows) i (s ∷ ss) h =
-    let head : row i ≡ r = ap row (omega arith) ∙ h 0 in
-    let same : given_worth (row i) (job_served s) ≡ given_worth r (job_served s) = ap (λ l. given_worth l (job_served s)) head in
-    let rest = along_all row rows (i + 1) ss (λ k. ap row (omega arith) ∙ h (suc k)) in
-    sum_by-cons (λ (p : ℕ × Standing). given_worth (row p.0) (job_served p.1)) (i, s) (enumerate_from (i + 1) ss) ∙ omega (arith, same, rest)
+-- what a served carrier is told, divided again, is what its job is worth to it on the sheet
+pub told_is : (m : Meaning) (ss : List Standing) → HeldUnderTimes m ss → (i : ℕ) (s : Standing) → get_or ss i Out ≡ s → worth_told (length ss + 1) s ≡ given_worth (row_of m i) (job_served s)
+told_is m ss timed i Waiting at = refl
+told_is m ss timed i (Bidding b) at = refl
+told_is m ss timed i (Served h) at =
+    ap (λ w. w / (length ss + 1)) (timed i h at) ∙ mul-div_cancel (worth_of m i h.job) {n = length ss + 1} (omega arith)
+told_is m ss timed i Out at = refl
+
+-- what all carriers are told comes to what the pairing is worth
+pub along_all : (told : Standing → ℕ) (rows : List (List (ℕ × ℕ))) (ss : List Standing) → ((k : ℕ) → k < length ss → told (get_or ss k Out) ≡ given_worth (get_or rows k []) (job_served (get_or ss k Out))) →
+    sum_by told ss ≡ worth_along rows (map job_served ss)
+along_all told rows [] h = sym (along_none rows)
+along_all told [] (s ∷ ss) h =
+    let none = h 0 (omega arith) ∙ given_none (job_served s) in
+    let rest = along_all told [] ss (λ k l. h (suc k) (omega arith)) in
+    sum_by-cons told s ss ∙ omega (arith, none, rest, along_past (map job_served ss))
+along_all told (r ∷ rows) (s ∷ ss) h =
+    let head = h 0 (omega arith) in
+    let rest = along_all told rows ss (λ k l. h (suc k) (omega arith)) in
+    sum_by-cons told s ss ∙ omega (arith, head, rest)

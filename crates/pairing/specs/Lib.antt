@@ -1,2 +1,3 @@
+pub mod Held
 pub mod Listing
 pub mod Pairs

@@ -1,5 +1,6 @@
 // The auction of a sheet.
-ghost use Rattle.std.specs.Prelude.{◌≡◌, ◌≤◌, length};
+ghost use Rattle.std.specs.Prelude.{◌≡◌, ◌≤◌, length, OnOk};
+ghost use Rattle.pairing.specs.Held.{HeldUnderTimes};
 ghost use Rattle.pairing.specs.Pairs.{Ends, auctioned};
 
 use auction::call::{Answer, Call};
@@ -16,7 +17,8 @@ pub(crate) fn hold_auction<S: Source>(
 ) -> Result<Counts, Refusal>
     requires few { length standings.old ≤ 128 }
     requires each { length standings.old ≡ (S.Source.meaning source.now).carriers }
-    ensures { Ends (auctioned (S.Source.meaning source.now)) result standings.new }
+    ensures ends { Ends (auctioned (S.Source.meaning source.now)) result standings.new }
+    ensures timed { OnOk result (HeldUnderTimes (S.Source.meaning source.now) standings.new) }
 {
     let times = Times {
         below: source,

@@ -1,29 +1,37 @@
 // The listing of standings and counts, put piece by piece.
-ghost use Rattle.std.specs.Prelude.{◌≡◌, ◌+◌, ◌*◌, ◌≤◌, map, length};
+ghost use Rattle.std.specs.Prelude.{◌≡◌, ◌+◌, ◌*◌, ◌/◌, ◌≤◌, map, length, slice_index_or};
 ghost use Rattle.numbers.specs.Writing.{over};
-ghost use Rattle.sources.specs.Meaning.{row_of};
-ghost use Rattle.auction.specs.Laws.{given_worth, job_served, worth};
+ghost use Rattle.auction.specs.Laws.{job_served, worth};
 ghost use Rattle.outputs.specs.Puts.{Puts};
 ghost use Rattle.pairing.specs.Listing.{carrier_line, carrier_lines, last_line, listing as listing_of, standing_text};
+ghost use Rattle.pairing.specs.Held.{HeldUnderTimes, worth_told};
 
 use crate::putting::put_number;
 use auction::standing::{Counts, Standing};
 use outputs::Output;
-use rows::worth_of;
 use sources::source::Source;
 
 // An auction that has ended: what every carrier has of a sheet, and the counts.
 #[derive(Drop)]
-pub(crate) struct Ended<'a, S> {
+pub(crate) struct Ended<'a, S: Source> {
     pub(crate) source: &'a S,
     pub(crate) standings: &'a [Standing],
     pub(crate) counts: Counts,
     ghost few: { length standings.now ≤ 128 },
+    ghost timed: { HeldUnderTimes (S.Source.meaning source.now) standings.now },
 }
 
 impl<S: Source> Ended<'_, S> {
+    // What a worth that the hall tells is on the sheet.
+    fn on_sheet(&self, worth: u64) -> u64
+        ensures { result ≡ worth / (length self.now.standings.now + 1) }
+    {
+        worth / (self.standings.len() as u64 + 1)
+    }
+
     // Puts what a carrier has.
     fn put_standing(&self, carrier: usize, standing: Standing, output: &mut Output<'_>)
+        requires { standing ≡ slice_index_or self.now.standings.now carrier Standing.Out }
         ensures puts { Puts output.old output.new (standing_text (S.Source.meaning self.now.source.now) carrier standing) }
         ensures short { length (standing_text (S.Source.meaning self.now.source.now) carrier standing) ≤ 41 }
     {
@@ -32,7 +40,7 @@ impl<S: Source> Ended<'_, S> {
             Standing::Served(held) => {
                 put_number(output, held.job);
                 output.put(b" ");
-                put_number(output, worth_of(self.source, carrier, held.job));
+                put_number(output, self.on_sheet(held.worth));
             }
             Standing::Out => output.put(b"-"),
         }
@@ -40,6 +48,7 @@ impl<S: Source> Ended<'_, S> {
 
     // Puts the line of a carrier.
     fn put_line(&self, carrier: usize, standing: Standing, output: &mut Output<'_>)
+        requires { standing ≡ slice_index_or self.now.standings.now carrier Standing.Out }
         ensures puts { Puts output.old output.new (carrier_line (S.Source.meaning self.now.source.now) carrier standing) }
         ensures short { length (carrier_line (S.Source.meaning self.now.source.now) carrier standing) ≤ 63 }
     {
@@ -59,12 +68,12 @@ impl<S: Source> Ended<'_, S> {
         }
     }
 
-    // What a carrier's job is worth to it, if it is served.
-    fn worth_served(&self, carrier: usize, standing: Standing) -> u64
-        ensures { result ≡ given_worth (row_of (S.Source.meaning self.now.source.now) carrier) (job_served standing) }
+    // What a served carrier has is worth on the sheet; 0 where none is served.
+    fn worth_served(&self, standing: Standing) -> u64
+        ensures { result ≡ worth_told (length self.now.standings.now + 1) standing }
     {
         match standing {
-            Standing::Served(held) => worth_of(self.source, carrier, held.job),
+            Standing::Served(held) => self.on_sheet(held.worth),
             _ => 0,
         }
     }
@@ -75,8 +84,7 @@ impl<S: Source> Ended<'_, S> {
     {
         self.standings
             .iter()
-            .enumerate()
-            .map(|(carrier, standing)| u128::from(self.worth_served(carrier, *standing)))
+            .map(|standing| u128::from(self.worth_served(*standing)))
             .sum()
     }
 

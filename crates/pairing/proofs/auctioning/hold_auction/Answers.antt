@@ -6,18 +6,22 @@ use Rattle.auction.specs.declared.standing.Standing.TheVariants.{Out}
 use Rattle.auction.specs.Tally.{standing_at}
 use Rattle.hall.specs.InBooks.{tally_of}
 use Rattle.pairing.specs.Pairs.{Ends, auctioned}
-use Rattle.pairing.proofs.Auctions.{as_new, ends_refused, ends_well, noted_more, ok_same, standing_told}
+use Rattle.pairing.proofs.Auctions.{as_new, ends_refused, ends_timed, ends_well, noted_more, ok_same, standing_told}
 use Rattle.pairing.proofs.auctioning.hold_auction.Goals as goal
 use Rattle.pairing.proofs.auctioning.hold_auction.Goals.{in-Ok, in_default}
 
-pub returns-in_err-answers : goal.returns-in_err-answers
-returns-in_err-answers g c =
+pub returns-in_err-answers-clause-ends : goal.returns-in_err-answers-clause-ends
+returns-in_err-answers-clause-ends g c =
     let m = g.S.Source.meaning c.args.source.now in
     let sound = g.S.Source.sound c.args.source.now in
     let n = length c.args.standings.now in
     let r = as_new (λ (s : Times (Bor g.row.S.Denot)). times_of s.factor (g.S.Source.meaning s.below.now)) _ _ _ _ c.perform_all.new.answers c.perform_all.new.self.books c.new-hall.ensures.kept c.new-hall.ensures.tallied (c.perform_all.ensures.performed (ap is_ok c.perform_all.ensures.fits)) in
     let back : c.from_residual.result ≡ Err c.in_err-answers.field-0.0 = search rules in
     subst (λ o. Ends (auctioned m) o c.args.standings.now) (sym back) (ends_refused m sound n c.requires.each _ c.perform_all.new.answers c.perform_all.new.self.books r c.in_err-answers.field-0.0 _ c.args.standings.now c.in_err-answers.was)
+
+pub returns-in_err-answers-clause-timed : goal.returns-in_err-answers-clause-timed
+returns-in_err-answers-clause-timed g c =
+    ends_timed (g.S.Source.meaning c.args.source.now) (g.S.Source.sound c.args.source.now) c.from_residual.result c.args.standings.now (returns-in_err-answers-clause-ends g c)
 
 pub loop-carrier-preserved : goal.loop-carrier-preserved
 loop-carrier-preserved g c t some =
@@ -36,8 +40,8 @@ loop-carrier-preserved g c t some =
       | in_default w ↦ absurd (w.in_default.not-Ok _ told)
     ]
 
-pub returns : goal.returns
-returns g c =
+pub returns-clause-ends : goal.returns-clause-ends
+returns-clause-ends g c =
     let m = g.S.Source.meaning c.args.source.now in
     let sound = g.S.Source.sound c.args.source.now in
     let n = length c.args.standings.now in
@@ -47,3 +51,7 @@ returns g c =
     ends_well m sound n c.requires.each _ c.perform_all.new.answers b r _ c.in_ok-answers.field-0 c.counts.result c.loop-carrier.standings first
     (c.counts.ensures.answered ∙ ap (λ (s : Times (Bor g.row.S.Denot)). counts_answer (times_of s.factor (g.S.Source.meaning s.below.now)) (tally_of b)) (c.perform_all.ensures.kept ∙ c.new-hall.ensures.kept))
     c.loop-carrier.auto.standings (λ t some k inside. c.loop-carrier.invariant t some k (omega (arith, c.loop-carrier-test.false)))
+
+pub returns-clause-timed : goal.returns-clause-timed
+returns-clause-timed g c =
+    ends_timed (g.S.Source.meaning c.args.source.now) (g.S.Source.sound c.args.source.now) c.counts.result c.loop-carrier.standings (returns-clause-ends g c)
