@@ -1,4 +1,4 @@
--- What a bid has found, over all its looks: no lanes, and no looks.
+-- What a bid has found over all its looks, said of the entries that it has seen: no lanes, and no single look.
 use Rattle.std.specs.Prelude.{◌≡◌, ℕ, ◌≤◌, cond, List, [], ◌∷◌, map, length, take, pos, ◌-ℤ◌, ◌==◌, slice_index}
 use Rattle.std.specs.List.{AllByRecursion}
 use Rattle.auction.specs.declared.standing.Best.{Best}
