@@ -7,21 +7,31 @@ root=$(cd "$(dirname "$0")/.." && pwd)
 work=$(mktemp -d)
 trap 'rm -rf "$work"' EXIT
 "$root/bench/build.sh" "$work"
-gcc -std=c11 -Wall -Wextra -Werror -O2 -pthread -I"$root/include" -o "$work/stack" "$root/bench/stack.c" "$work/libpairing.a"
+gcc -std=gnu11 -Wall -Wextra -Werror -O2 -pthread -I"$root/include" -o "$work/stack" "$root/bench/stack.c" "$work/libpairing.a"
 "$work/stack" "$root"/samples/*.sheet "$work"/sheets/*.sheet
 
-# The least limit with which a program ends as without one.
+# The least limit with which a program ends well, in steps of 4 KiB: its input, and the command.
 least() {
-    low=16 high=8192
+    input=$1 low=16 high=8192
+    shift
+    "$@" <"$input" >/dev/null
     while [ $((high - low)) -gt 4 ]; do
         middle=$(((low + high) / 2))
-        if (ulimit -s "$middle" && exec "$1" <"$2") >/dev/null 2>&1; then high=$middle; else low=$middle; fi
+        if (ulimit -s "$middle" && exec "$@" <"$input") >/dev/null 2>&1; then high=$middle; else low=$middle; fi
     done
     echo "$high"
 }
 
-for program in pair replay; do
-    (cd "$root/crates/$program" && rt run <stdin >/dev/null 2>"$work/log") || { cat "$work/log"; exit 1; }
-done
-echo "pair: $(least "$root/crates/pair/out/pair" "$(ls "$work"/sheets/*-easy-128x256-4096.sheet)") KiB"
-echo "replay: $(least "$root/crates/replay/out/replay" "$root/crates/replay/stdin") KiB"
+# Builds a program of the repository, which runs as it is built: with these arguments.
+build() {
+    name=$1
+    shift
+    (cd "$root/crates/$name" && rt run -- "$@" <stdin >"$work/log" 2>&1) || { tail -n 20 "$work/log"; exit 1; }
+}
+
+# What the shell says of a run that meets its limit is not shown.
+large=$work/sheets/18-easy-128x256-4096.sheet
+build pair
+echo "pair: $(least "$large" "$root/crates/pair/out/pair" 2>/dev/null) KiB"
+build replay "$root/samples/three_by_three.sheet"
+echo "replay: $(least "$root/crates/replay/stdin" "$root/crates/replay/out/replay" "$large" 2>/dev/null) KiB"
