@@ -99,22 +99,31 @@ fn compared(draw: &mut Draw, out: &mut [u8]) -> (u32, u32) {
     (count, differ)
 }
 
-/// The least time of a call, of several rounds, each of which takes at least 20 ms.
-fn least(mut call: impl FnMut()) -> Duration {
+/// How many calls take about 10 ms.
+fn batch(call: &mut impl FnMut()) -> u32 {
     let start = Instant::now();
     call();
     let once = start.elapsed().max(Duration::from_nanos(100));
-    let times = (Duration::from_millis(20).as_nanos() / once.as_nanos()).clamp(1, 100_000) as u32;
-    (0..5)
-        .map(|_| {
-            let start = Instant::now();
-            for _ in 0..times {
-                call();
-            }
-            start.elapsed() / times
-        })
-        .min()
-        .unwrap_or(once)
+    (Duration::from_millis(10).as_nanos() / once.as_nanos()).clamp(1, 100_000) as u32
+}
+
+/// The mean time of so many calls.
+fn mean(times: u32, call: &mut impl FnMut()) -> Duration {
+    let start = Instant::now();
+    for _ in 0..times {
+        call();
+    }
+    start.elapsed() / times
+}
+
+/// The least time of each of two calls, in 20 rounds of at least 10 ms each. They take turns, so that what else the
+/// machine does falls on both.
+fn least(mut one: impl FnMut(), mut other: impl FnMut()) -> (Duration, Duration) {
+    let (ones, others) = (batch(&mut one), batch(&mut other));
+    (0..20)
+        .map(|_| (mean(ones, &mut one), mean(others, &mut other)))
+        .reduce(|least, now| (least.0.min(now.0), least.1.min(now.1)))
+        .unwrap_or_default()
 }
 
 /// A sheet of the table.
@@ -178,12 +187,14 @@ fn row(sample: &Sample, out: &mut [u8]) -> bool {
     let same = same(&sample.file, out);
     let text = text.unwrap_or_default();
     let words: Vec<&str> = text.lines().last().unwrap_or("").split(' ').collect();
-    let mine = least(|| {
-        std::hint::black_box(proved(std::hint::black_box(&sample.file), out));
-    });
-    let theirs = least(|| {
-        let _ = std::hint::black_box(plain::pair(std::hint::black_box(&sample.file)));
-    });
+    let (mine, theirs) = least(
+        || {
+            std::hint::black_box(proved(std::hint::black_box(&sample.file), out));
+        },
+        || {
+            let _ = std::hint::black_box(plain::pair(std::hint::black_box(&sample.file)));
+        },
+    );
     let us = |d: Duration| d.as_nanos() as f64 / 1000.0;
     println!(
         "{:<9} {:<9} {:>7} {:>6} {:>5} {:>9.1} {:>9.1} {:>5.2}",
