@@ -35,12 +35,13 @@ impl<R: Revaluer, V: Visitor> Visitor for Revaluing<R, V> {
     ghost shown = { λ s e. record { revaluer = s.revaluer; visitor = V.shown s.visitor (e.0, R.made s.revaluer e.1) } };
 
     #[inline(always)]
-    fn see(self, job: usize, worth: u64) -> Self {
+    fn see(self, entry: (usize, u64)) -> Self {
         let Revaluing { revaluer, visitor } = self;
+        let (job, worth) = entry;
         let worth = revaluer.revalued(worth);
         Revaluing {
             revaluer,
-            visitor: visitor.see(job, worth),
+            visitor: visitor.see((job, worth)),
         }
     }
 }

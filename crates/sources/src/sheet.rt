@@ -73,7 +73,7 @@ impl Source for Sheet<'_> {
         }
         let mut visitor = visitor;
         for index in from..from + count.min(row.len() - from) {
-            visitor = visitor.see(row[index].job, row[index].worth);
+            visitor = visitor.see((row[index].job, row[index].worth));
         }
         visitor
     }

@@ -42,8 +42,8 @@ pub trait Source {
         let part = part_of(self.row_len(carrier).unwrap_or(0), from, count);
         let mut visitor = visitor;
         for index in part.start..part.end {
-            let (job, worth) = self.entry(carrier, index).unwrap_or((0, 0));
-            visitor = visitor.see(job, worth);
+            let entry = self.entry(carrier, index).unwrap_or((0, 0));
+            visitor = visitor.see(entry);
         }
         visitor
     }

@@ -6,7 +6,7 @@ pub trait Visitor {
     // What it is once it was shown an entry.
     ghost shown: { Self → ℕ × ℕ → Self };
 
-    /// Sees one more entry.
-    fn see(self, job: usize, worth: u64) -> Self
-        ensures { result ≡ shown self (job, worth) };
+    /// Sees one more entry, a pair of job and worth.
+    fn see(self, entry: (usize, u64)) -> Self
+        ensures { result ≡ shown self entry };
 }

@@ -62,7 +62,8 @@ impl Visitor for Glance<'_> {
     ghost shown = { glanced };
 
     #[inline(always)]
-    fn see(self, job: usize, worth: u64) -> Self {
+    fn see(self, entry: (usize, u64)) -> Self {
+        let (job, worth) = entry;
         let job = job % MOST_JOBS;
         let net = worth.wrapping_sub(self.lots[job].price).cast_signed();
         let is_best = net > self.net;

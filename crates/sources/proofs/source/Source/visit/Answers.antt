@@ -10,7 +10,7 @@ loop-index-preserved g c =
     let m = g.Self.Source.meaning c.args.self.now in
     let row = row_of m c.args.carrier in
     let len : c.unwrap_or.result ≡ length (row_of m c.args.carrier) = c.unwrap_or.ensures ∙ ap (λ o. unwrap_or o 0) c.row_len.ensures ∙ row_len_or_zero m c.args.carrier in
-    let e = c.unwrap_or-job.ensures ∙ ap (λ o. unwrap_or o (0, 0)) c.entry.ensures ∙ entry_or m c.args.carrier c.loop-index.index in
+    let e = c.unwrap_or-entry.ensures ∙ ap (λ o. unwrap_or o (0, 0)) c.entry.ensures ∙ entry_or m c.args.carrier c.loop-index.index in
     record {
       shown = c.see-visitor.ensures ∙ (λ i. g.V.Visitor.shown (c.loop-index.invariant.shown i) (e i))
           ∙ shown_more g.V.Visitor.shown c.args.visitor row c.part_of-part.result.start c.loop-index.index _ (0, 0) (omega arith) (omega (arith, len, c.part_of-part.ensures.start, c.part_of-part.ensures.end)) refl;
