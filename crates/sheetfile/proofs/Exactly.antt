@@ -11,8 +11,8 @@ use Rattle.sources.specs.declared.form.Heading.{Heading}
 use Rattle.sheetfile.specs.Begun.{Begun}
 use Rattle.sheetfile.specs.Layout.{Row, SheetFile}
 use Rattle.sheetfile.specs.Reading.{closed_at}
-use Rattle.sheetfile.specs.States.{ClosesExactly, ReadsInOrder, Stand, closed_by, closing, entries_after_row, next_row, stand, starts_after_row}
-use Rattle.sheetfile.specs.Steps.{updated, without_value}
+use Rattle.sheetfile.specs.States.{ClosesExactly, ReadsInOrder, RowRead, Stand, closed_by, closing, entries_after_row, next_row, stand, starts_after_row}
+use Rattle.sheetfile.specs.Steps.{without_value}
 use Rattle.sheetfile.specs.Tables.{HoldsRows, sheet_in}
 use Rattle.sheetfile.specs.declared.loader.Closed.{Closed}
 use Rattle.sheetfile.specs.declared.loader.Headed.{Headed}
@@ -29,8 +29,7 @@ valued (Ok x) is = (x, refl)
 module _ (l : Stand) (begun : ∥ Begun l.reader.bytes.now l.reader.at l.heading l.rows l.used ∥₁) (m : Meaning) (file : SheetFile l.reader.bytes.now m)
     (starts : List ℕ) (entries : List Entry) (r : Result (Unit {0}) Fault) (starts' : List ℕ) (entries' : List Entry)
     (told : r ≡ without_value (next_row l (length starts) (length entries)))
-    (ss : starts' ≡ updated (next_row l (length starts) (length entries)) starts (starts_after_row l starts))
-    (es : entries' ≡ updated (next_row l (length starts) (length entries)) entries (entries_after_row l entries)) where
+    (l' : Stand) (read : RowRead l l' starts starts' entries entries') where
   every : l.rows < m.carriers → l.rows + 2 ≤ length starts → length (row_of m l.rows) ≤ length entries - l.used → r ≡ Ok tt
   every inside enough few =
       let k = told_next l.reader.bytes.now l.heading l.reader.at l.rows l.used begun m file inside in
@@ -45,8 +44,8 @@ module _ (l : Stand) (begun : ∥ Begun l.reader.bytes.now l.reader.at l.heading
       let h = told_heading l.reader.bytes.now l.heading l.reader.at l.rows l.used begun m file in
       let k = told_next l.reader.bytes.now l.heading l.reader.at l.rows l.used begun m file (omega (arith, a.3, ap (λ (x : Heading). x.carriers) h)) in
       let same : x.0.0 ≡ row_of m l.rows = ap (λ (y : Row × ℕ). y.0) (ok_same x.0 (row_of m l.rows, k.0) (sym a.0 ∙ k.1)) in (
-        ss ∙ sym (updated_ok v x.0 starts (starts_after_row l starts) x.1) ∙ ap (λ row. set starts (l.rows + 1) (l.used + length row)) same,
-        es ∙ sym (updated_ok v x.0 entries (entries_after_row l entries) x.1) ∙ ap (λ row. entries_after_row l entries (row, 0)) same,
+        read.starts_are ∙ sym (updated_ok v x.0 starts (starts_after_row l starts) x.1) ∙ ap (λ row. set starts (l.rows + 1) (l.used + length row)) same,
+        read.entries_are ∙ sym (updated_ok v x.0 entries (entries_after_row l entries) x.1) ∙ ap (λ row. entries_after_row l entries (row, 0)) same,
       )
 
   held : r ≡ Ok tt → HoldsRows m l.rows starts entries → HoldsRows m (l.rows + 1) starts' entries'

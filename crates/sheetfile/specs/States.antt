@@ -9,7 +9,7 @@ use Rattle.sources.specs.declared.form.Entry.{Entry}
 use Rattle.sources.specs.declared.form.Heading.{Heading}
 use Rattle.sheetfile.specs.Layout.{Row, SheetFile}
 use Rattle.sheetfile.specs.Reading.{closed_at, row_in}
-use Rattle.sheetfile.specs.Steps.{and_then, room_for}
+use Rattle.sheetfile.specs.Steps.{and_then, room_for, updated}
 use Rattle.sheetfile.specs.Tables.{HoldsRows, sheet_in}
 use Rattle.numbers.specs.Writing.{over}
 use Rattle.sheetfile.specs.declared.loader.Bare.{Bare}
@@ -55,6 +55,12 @@ starts_after_row l starts r = slice_set starts (l.rows + 1) (l.used + length r.0
 
 abbrev pub entries_after_row : Stand → List Entry → Row × ℕ → List Entry
 entries_after_row l entries r = over entries l.used (map entry_of r.0)
+
+-- What reading the next row makes of a loader and of the tables that it is lent. Where it is refused, all are as they were.
+pub record RowRead (l l' : Stand) (starts starts' : List ℕ) (entries entries' : List Entry) : Type 0 where
+  pub loader : l' ≡ updated (next_row l (length starts) (length entries)) l (after_row l)
+  pub starts_are : starts' ≡ updated (next_row l (length starts) (length entries)) starts (starts_after_row l starts)
+  pub entries_are : entries' ≡ updated (next_row l (length starts) (length entries)) entries (entries_after_row l entries)
 
 -- ---- A headed loader is closed.
 

@@ -92,7 +92,7 @@ impl<'a> Bare<'a> {
 }
 
 impl<'a> Headed<'a> {
-    ghost use Rattle.sheetfile.specs.States.{ClosesExactly, ReadsInOrder, after_row, closed_by, closing, entries_after_row, next_row, stand, starts_after_row};
+    ghost use Rattle.sheetfile.specs.States.{ClosesExactly, ReadsInOrder, RowRead, closed_by, closing, next_row, stand};
 
     // How many entries the next row has, if tables of such lengths can take it.
     fn next_row(&self, starts: usize, room: usize) -> Result<usize, Fault>
@@ -112,9 +112,7 @@ impl<'a> Headed<'a> {
     // Reads the next row, and writes its entries and the place where it ends, which is the next start.
     pub fn read_row(&mut self, starts: &mut [usize], entries: &mut [Entry]) -> Result<(), Fault>
         ensures answer { result ≡ without_value (next_row (stand self.old) (length starts.old) (length entries.old)) }
-        ensures loader { stand self.new ≡ updated (next_row (stand self.old) (length starts.old) (length entries.old)) (stand self.old) (after_row (stand self.old)) }
-        ensures starts { starts.new ≡ updated (next_row (stand self.old) (length starts.old) (length entries.old)) starts.old (starts_after_row (stand self.old) starts.old) }
-        ensures entries { entries.new ≡ updated (next_row (stand self.old) (length starts.old) (length entries.old)) entries.old (entries_after_row (stand self.old) entries.old) }
+        ensures after { RowRead (stand self.old) (stand self.new) starts.old starts.new entries.old entries.new }
         ensures file { (m : Meaning) → SheetFile self.old.reader.bytes.now m → ReadsInOrder m (stand self.old) starts.old entries.old result starts.new entries.new }
     {
         let count = self.next_row(starts.len(), entries.len())?;
@@ -136,9 +134,7 @@ impl<'a> Headed<'a> {
     ) -> Result<(), Fault>
         requires { is_ok (next_row (stand self.old) (length starts.old) (length entries.old)) ≡ true }
         ensures answer { result ≡ Ok tt }
-        ensures loader { stand self.new ≡ updated (next_row (stand self.old) (length starts.old) (length entries.old)) (stand self.old) (after_row (stand self.old)) }
-        ensures starts { starts.new ≡ updated (next_row (stand self.old) (length starts.old) (length entries.old)) starts.old (starts_after_row (stand self.old) starts.old) }
-        ensures entries { entries.new ≡ updated (next_row (stand self.old) (length starts.old) (length entries.old)) entries.old (entries_after_row (stand self.old) entries.old) }
+        ensures after { RowRead (stand self.old) (stand self.new) starts.old starts.new entries.old entries.new }
     {
         let count = self.reader.announced()?;
         let low = self.used.min(entries.len());

@@ -38,7 +38,7 @@ loop-i-preserved c =
     let l = c.loop-i in
     let r = c.read_known_row in
     underway_next c.args.bytes.now c.read_heading.new.starts c.args.entries.now c.args.surveyed.carriers l._i (stand l.loader) l.starts l.entries l.invariant l.auto.starts l.auto.entries c.loop-i-test.true
-    (stand r.new.self) r.new.starts r.new.entries r.ensures.loader r.ensures.starts r.ensures.entries
+    (stand r.new.self) r.new.starts r.new.entries r.ensures.after.loader r.ensures.after.starts_are r.ensures.after.entries_are
 
 pub returns : goal.returns
 returns c =

@@ -3,7 +3,7 @@ use Rattle.std.proofs.lemmas.List.{length-drop, length-take}
 use Rattle.sheetfile.specs.States.{stand}
 use Rattle.sheetfile.proofs.Known.{known}
 use Rattle.sheetfile.proofs.Steps.{err_not_ok}
-use Rattle.sheetfile.proofs.Taking.{begun_row, loader_moved, row_put, start_put, takes_announced}
+use Rattle.sheetfile.proofs.Taking.{begun_row, row_read, takes_announced}
 use Rattle.sheetfile.proofs.loader.Headed.read_known_row.Goals as goal
 
 pub returns-in_err-count : goal.returns-in_err-count
@@ -27,20 +27,10 @@ invariant_of-self-2 c =
     let k = takes_announced (stand c.args.self.now) (length c.args.starts.now) (length c.args.entries.now) c.in_ok-count.count c.requires (sym c.in_ok-count.was ∙ c.announced.ensures) in
     record { begun = begun_row (stand c.args.self.now) c.args.starts.now c.args.entries.now c.in_ok-count.count k c.row.new.self c.row.ensures.reads.place c.args.self.now.begun }
 
-pub returns-clause-loader : goal.returns-clause-loader
-returns-clause-loader c =
-    let k = takes_announced (stand c.args.self.now) (length c.args.starts.now) (length c.args.entries.now) c.in_ok-count.count c.requires (sym c.in_ok-count.was ∙ c.announced.ensures) in
-    loader_moved (stand c.args.self.now) c.args.starts.now c.args.entries.now c.in_ok-count.count k c.row.new.self c.row.ensures.reads.place
-
-pub returns-clause-starts : goal.returns-clause-starts
-returns-clause-starts c =
-    let k = takes_announced (stand c.args.self.now) (length c.args.starts.now) (length c.args.entries.now) c.in_ok-count.count c.requires (sym c.in_ok-count.was ∙ c.announced.ensures) in
-    start_put (stand c.args.self.now) c.args.starts.now c.args.entries.now c.in_ok-count.count k
-
-pub returns-clause-entries : goal.returns-clause-entries
-returns-clause-entries c =
+pub returns-clause-after : goal.returns-clause-after
+returns-clause-after c =
     let k = takes_announced (stand c.args.self.now) (length c.args.starts.now) (length c.args.entries.now) c.in_ok-count.count c.requires (sym c.in_ok-count.was ∙ c.announced.ensures) in
     let low = c.min-low.result in
     let long : length c.row.new.table ≡ c.in_ok-count.count =
     omega (arith, c.row.auto.table, k.fits, c.min-low.ensures, length-take (low + c.in_ok-count.count - low) (drop c.min-low.result c.args.entries.now), length-drop c.min-low.result c.args.entries.now) in
-    row_put (stand c.args.self.now) c.args.starts.now c.args.entries.now c.in_ok-count.count k c.row.new.table low c.min-low.ensures long c.row.ensures.held
+    row_read (stand c.args.self.now) c.args.starts.now c.args.entries.now c.in_ok-count.count k c.row.new.self c.row.ensures.reads.place c.row.new.table low c.min-low.ensures long c.row.ensures.held
