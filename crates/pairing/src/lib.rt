@@ -40,6 +40,7 @@ pub fn list_pairs(sheet: &[u8], out: &mut [u8]) -> Result<usize, Refusal>
     // A smaller table where it suffices, since it takes longer to fill a large one with zeros than to pair a small sheet.
     match sheet.len() {
         ..=256 => list_in::<128>(sheet, out),
+        ..=1024 => list_in::<512>(sheet, out),
         ..=2048 => list_in::<1024>(sheet, out),
         _ => list_in::<MOST_ENTRIES>(sheet, out),
     }

@@ -48,110 +48,145 @@ pub(crate) enum Law {
     Rounds,
 }
 
-// All of them, in their order.
-pub(crate) const LAWS: [Law; 39] = [
-    Law::Refusal,
-    Law::NeverStarted,
-    Law::Answer,
-    Law::Unaltered,
-    Law::Start,
-    Law::Replay,
-    Law::Parts,
-    Law::Pairing,
-    Law::Worth,
-    Law::Rival,
-    Law::Exact,
-    Law::ExactWhenSpent,
-    Law::Slack,
-    Law::LeftOut,
-    Law::Balance,
-    Law::FewAwards,
-    Law::FewStales,
-    Law::Summons,
-    Law::Look,
-    Law::Found,
-    Law::FoundAfterRise,
-    Law::NotFallen,
-    Law::Out,
-    Law::Award,
-    Law::Stale,
-    Law::StaleWhy,
-    Law::Conservative,
-    Law::ConservativeAfterRise,
-    Law::CarriedOut,
-    Law::SequentialOut,
-    Law::SequentialAward,
-    Law::Report,
-    Law::Steps,
-    Law::MadeOf,
-    Law::Narrow,
-    Law::SummonsFirst,
-    Law::Line,
-    Law::Flight,
-    Law::Rounds,
+// All of them, in their order, each in plain words.
+pub(crate) const LAWS: [(Law, &str); 39] = [
+    (
+        Law::Refusal,
+        "a call is refused by the first reason that applies, or not at all",
+    ),
+    (
+        Law::NeverStarted,
+        "a hall that was never started refuses all but a start",
+    ),
+    (
+        Law::Answer,
+        "an accepted call answers as its kind does, and a question what the hall told before",
+    ),
+    (
+        Law::Unaltered,
+        "a question and a refused call alter nothing",
+    ),
+    (Law::Start, "a start sets everything back"),
+    (
+        Law::Replay,
+        "a list that is replayed gives the same answers",
+    ),
+    (
+        Law::Parts,
+        "a list replayed in part and then performed to its end gives the same answers",
+    ),
+    (
+        Law::Pairing,
+        "who is served holds a job of its own, and a job without a holder costs nothing",
+    ),
+    (Law::Worth, "the total worth is that of the pairing"),
+    (
+        Law::Rival,
+        "no rival pairing is worth more than the hall's and a step for each carrier served",
+    ),
+    (
+        Law::Exact,
+        "with a factor above carriers times step no rival is worth more below the layer",
+    ),
+    (
+        Law::ExactWhenSpent,
+        "after a spent run no rival of the carriers served or out is worth more below such a layer",
+    ),
+    (
+        Law::Slack,
+        "who is served is within a step of its best net, and of 0",
+    ),
+    (Law::LeftOut, "who is out would gain nothing"),
+    (
+        Law::Balance,
+        "summonses are awards, stale bids, outs and open bids",
+    ),
+    (
+        Law::FewAwards,
+        "awards are at most jobs times the highest price",
+    ),
+    (
+        Law::FewStales,
+        "stale bids are at most awards times the other carriers",
+    ),
+    (
+        Law::Summons,
+        "a summons opens a bid that has looked at nothing, and alters nothing else",
+    ),
+    (Law::Look, "a look alters its bid and nothing else"),
+    (
+        Law::Found,
+        "a bid has the best of all nets that it saw, and the largest of the others",
+    ),
+    (
+        Law::FoundAfterRise,
+        "a bid keeps what it saw where a price has risen since",
+    ),
+    (
+        Law::NotFallen,
+        "no price is below what it was when a bid saw it",
+    ),
+    (Law::Out, "a bid without a net above 0 is out, and no other"),
+    (
+        Law::Award,
+        "an award is of the best job, at what is bid, and displaces its holder",
+    ),
+    (Law::Stale, "a stale bid is at most the price"),
+    (
+        Law::StaleWhy,
+        "the best job of a stale bid costs more than when it was seen",
+    ),
+    (
+        Law::Conservative,
+        "no more is bid than with another net, at the prices now, as runner-up",
+    ),
+    (
+        Law::ConservativeAfterRise,
+        "no more is bid than with the net of a job as runner-up whose price has risen since it was seen",
+    ),
+    (
+        Law::CarriedOut,
+        "a settle alters what its verdict says, and nothing else",
+    ),
+    (
+        Law::SequentialOut,
+        "a bid without an award in between is out by the sequential rule",
+    ),
+    (
+        Law::SequentialAward,
+        "a bid without an award in between is awarded by the sequential rule",
+    ),
+    (
+        Law::Report,
+        "a run reports its steps, its ending and what the counts moved by",
+    ),
+    (Law::Steps, "a run with one step less makes one act less"),
+    (
+        Law::MadeOf,
+        "the acts of a run, made one by one, are accepted and lead to the same",
+    ),
+    (
+        Law::Narrow,
+        "no more bids are open than the depth, or than before the run",
+    ),
+    (
+        Law::SummonsFirst,
+        "a step is a summons exactly if one waits and the depth leaves room",
+    ),
+    (Law::Line, "who waits longest is summoned first"),
+    (
+        Law::Flight,
+        "of the open bids that one acts whose last act is longest ago",
+    ),
+    (
+        Law::Rounds,
+        "at depth 1 one carrier after the other is summoned, looks and settles",
+    ),
 ];
-
-impl Law {
-    // The law in plain words.
-    fn text(self) -> &'static str {
-        match self {
-            Law::Refusal => "a call is refused by the first reason that applies, or not at all",
-            Law::NeverStarted => "a hall that was never started refuses all but a start",
-            Law::Answer => "a question among the calls tells what the hall told before",
-            Law::Unaltered => "a question and a refused call alter nothing",
-            Law::Start => "a start sets everything back",
-            Law::Replay => "a list that is replayed gives the same answers",
-            Law::Parts =>
-                "a list replayed in part and then performed to its end gives the same answers",
-            Law::Pairing =>
-                "who is served holds a job of its own, and a job without a holder costs nothing",
-            Law::Worth => "the total worth is that of the pairing",
-            Law::Rival =>
-                "no rival pairing is worth more than the hall's and a step for each carrier served",
-            Law::Exact =>
-                "with a factor above carriers times step no rival is worth more below the layer",
-            Law::ExactWhenSpent =>
-                "after a spent run no rival of the carriers served or out is worth more below such a layer",
-            Law::Slack => "who is served is within a step of its best net, and of 0",
-            Law::LeftOut => "who is out would gain nothing",
-            Law::Balance => "summonses are awards, stale bids, outs and open bids",
-            Law::FewAwards => "awards are at most jobs times the highest price",
-            Law::FewStales => "stale bids are at most awards times the other carriers",
-            Law::Summons =>
-                "a summons opens a bid that has looked at nothing, and alters nothing else",
-            Law::Look => "a look alters its bid and nothing else",
-            Law::Found =>
-                "a bid has the best of all nets that it saw, and the largest of the others",
-            Law::FoundAfterRise => "a bid keeps what it saw where a price has risen since",
-            Law::NotFallen => "no price is below what it was when a bid saw it",
-            Law::Out => "a bid without a net above 0 is out, and no other",
-            Law::Award => "an award is of the best job, at what is bid, and displaces its holder",
-            Law::Stale => "a stale bid is at most the price",
-            Law::StaleWhy => "the best job of a stale bid costs more than when it was seen",
-            Law::Conservative =>
-                "no more is bid than with another net, at the prices now, as runner-up",
-            Law::ConservativeAfterRise =>
-                "no more is bid than with the net of a job as runner-up whose price has risen since it was seen",
-            Law::CarriedOut => "a settle alters what its verdict says, and nothing else",
-            Law::SequentialOut => "a bid without an award in between is out by the sequential rule",
-            Law::SequentialAward =>
-                "a bid without an award in between is awarded by the sequential rule",
-            Law::Report => "a run reports its steps, its ending and what the counts moved by",
-            Law::Steps => "a run with one step less makes one act less",
-            Law::MadeOf => "the acts of a run, made one by one, are accepted and lead to the same",
-            Law::Narrow => "no more bids are open than the depth, or than before the run",
-            Law::SummonsFirst =>
-                "a step is a summons exactly if one waits and the depth leaves room",
-            Law::Line => "who waits longest is summoned first",
-            Law::Flight => "of the open bids that one acts whose last act is longest ago",
-            Law::Rounds => "at depth 1 one carrier after the other is summoned, looks and settles",
-        }
-    }
-}
 
 impl fmt::Display for Law {
     fn fmt<W: fmt::Write>(&self, f: &mut fmt::Formatter<W>) -> fmt::Result {
-        let text = self.text();
+        let text = LAWS.get(*self as usize).map_or("", |law| law.1);
         write!(f, "{text}")
     }
 }

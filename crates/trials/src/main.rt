@@ -124,17 +124,21 @@ fn on_trial(rt: &HostRuntime, bench: &mut Bench, trial: &Trial) -> anyhow::Resul
 
 // The number of the sheet that is to be tried alone, if the program was given one.
 fn sheet_wanted(rt: &HostRuntime) -> anyhow::Result<Option<u32>> {
-    match env::args(rt)?.nth(1) {
-        None => Ok(None),
-        Some(text) => Ok(Some(text.parse().context("the number of a sheet is wanted")?)),
-    }
+    let Some(text) = env::args(rt)?.nth(1) else {
+        return Ok(None);
+    };
+    let number = text
+        .parse::<u32>()
+        .context("the number of a sheet is wanted")?;
+    ensure!(number < SHEETS, "there is no sheet {number}");
+    Ok(Some(number))
 }
 
 // How often each law had something to check. One that never had would be no check.
 fn tell_checks(rt: &impl Print, checks: &Checks) -> anyhow::Result<()> {
-    for law in LAWS {
+    for (law, text) in LAWS {
         let made = checks.made(law);
-        println!(rt; "{made} {law}")?;
+        println!(rt; "{made} {text}")?;
         ensure!(made > 0, "a law was never checked");
     }
     Ok(())
@@ -156,7 +160,9 @@ fn main(rt: HostRuntime) -> anyhow::Result<()> {
             on_trial(&rt, &mut bench, &trial)?;
         }
     }
-    if wanted.is_none() {
+    if let Some(sheet) = wanted {
+        println!(rt; "sheet {sheet}: all laws held")?;
+    } else {
         println!(rt;
             "{SHEETS} sheets, each with {CALLS} calls under four piles of layers: all laws held. How often each was checked:"
         )?;
