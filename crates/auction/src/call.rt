@@ -1,10 +1,11 @@
-// The calls on a hall, questions too, and their answers.
+//! The calls on a hall, questions too, and their answers.
 ghost use Rattle.auction.specs.Shown.{answer_text, call_text};
 ghost use Rattle.std.specs.Prelude.{Some};
 
 use crate::standing::{Counts, Report, Standing, Verdict};
 use std::fmt;
 
+/// A call on a hall, or a question to it, with what it is given.
 #[derive(Clone, Copy, PartialEq, Eq, Debug)]
 pub enum Call {
     Start { step: u64, lanes: usize },
@@ -19,10 +20,10 @@ pub enum Call {
     AllCounts,
 }
 
-// What an accepted call answers. A call gives `Result<Answer, Refusal>`.
+/// What an accepted call answers. A call gives `Result<Answer, Refusal>`.
 #[derive(Clone, Copy, PartialEq, Eq, Debug)]
 pub enum Answer {
-    // Start, summon and look tell only success.
+    /// Start, summon and look tell only success.
     Accepted,
     Settled(Verdict),
     Ran(Report),

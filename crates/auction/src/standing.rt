@@ -1,10 +1,10 @@
-// What a carrier's standing, its bid and the end of a bid are.
+//! What a carrier's standing, its bid and the end of a bid are.
 ghost use Rattle.auction.specs.Shown.{award_text, best_text, bid_text, counts_text, ending_text, held_text, report_text, standing_text, verdict_text};
 ghost use Rattle.std.specs.Prelude.{Some};
 
 use std::fmt;
 
-// The best net that a bid has met so far, with its job and worth. A net is worth minus the price at the moment of the look.
+/// The best net that a bid has met so far, with its job and worth. A net is worth minus the price at the moment of the look.
 #[derive(Clone, Copy, PartialEq, Eq, Debug)]
 pub struct Best {
     pub net: i64,
@@ -12,7 +12,7 @@ pub struct Best {
     pub worth: u64,
 }
 
-// How many entries of its row a bid has looked at, the best of them, and the runner-up: the highest net above 0 among the others, and 0 where none is above 0.
+/// How many entries of its row a bid has looked at, the best of them, and the runner-up: the highest net above 0 among the others, and 0 where none is above 0.
 #[derive(Clone, Copy, PartialEq, Eq, Debug)]
 pub struct Bid {
     pub looked: usize,
@@ -20,14 +20,14 @@ pub struct Bid {
     pub runner_up: u64,
 }
 
-// The job that a served carrier holds, and what it is worth to that carrier.
+/// The job that a served carrier holds, and what it is worth to that carrier.
 #[derive(Clone, Copy, PartialEq, Eq, Debug)]
 pub struct Held {
     pub job: usize,
     pub worth: u64,
 }
 
-// Where a carrier stands in an auction. An unfinished bid is kept with its carrier.
+/// Where a carrier stands in an auction. An unfinished bid is kept with its carrier.
 #[derive(Clone, Copy, PartialEq, Eq, Debug)]
 pub enum Standing {
     Waiting,
@@ -36,7 +36,7 @@ pub enum Standing {
     Out,
 }
 
-// A job that was won, its new price, and the carrier that held it before, if there was one.
+/// A job that was won, its new price, and the carrier that held it before, if there was one.
 #[derive(Clone, Copy, PartialEq, Eq, Debug)]
 pub struct Award {
     pub job: usize,
@@ -44,17 +44,17 @@ pub struct Award {
     pub displaced: Option<usize>,
 }
 
-// How a bid ends.
+/// How a bid ends.
 #[derive(Clone, Copy, PartialEq, Eq, Debug)]
 pub enum Verdict {
-    // No net was above 0.
+    /// No net was above 0.
     Out,
-    // The bid is at most the price now; the carrier waits again.
+    /// The bid is at most the price now; the carrier waits again.
     Stale,
     Awarded(Award),
 }
 
-// How many summonses, awards, stale bids and outs there were, since the start or in a run.
+/// How many summonses, awards, stale bids and outs there were, since the start or in a run.
 #[derive(Clone, Copy, PartialEq, Eq, Debug, Default)]
 pub struct Counts {
     pub summonses: u64,
@@ -63,7 +63,7 @@ pub struct Counts {
     pub outs: u64,
 }
 
-// What a carrier is called on to do.
+/// What a carrier is called on to do.
 #[derive(Clone, Copy, PartialEq, Eq, Debug)]
 pub enum Act {
     Summon,
@@ -71,21 +71,21 @@ pub enum Act {
     Settle,
 }
 
-// A carrier in flight during a run, with the looks that it has left.
+/// A carrier in flight during a run, with the looks that it has left.
 #[derive(Clone, Copy, PartialEq, Eq, Debug)]
 pub struct InFlight {
     pub carrier: usize,
     pub looks_left: usize,
 }
 
-// How a run ends: done if nobody waits or bids, else spent.
+/// How a run ends: done if nobody waits or bids, else spent.
 #[derive(Clone, Copy, PartialEq, Eq, Debug)]
 pub enum Ending {
     Done,
     Spent,
 }
 
-// The steps that a run made, what it counted, and how it ended.
+/// The steps that a run made, what it counted, and how it ended.
 #[derive(Clone, Copy, PartialEq, Eq, Debug)]
 pub struct Report {
     pub steps: u64,

@@ -1,6 +1,6 @@
-// Whole, damaged and random sheet files through the loader, the same ones in each run: every accepted one is written
-// again and compared, also to a buffer that is too short, and the three states are compared with the load of a whole
-// file. Prints what became of them.
+//! Whole, damaged and random sheet files through the loader, the same ones in each run: every accepted one is written
+//! again and compared, also to a buffer that is too short, and the three states are compared with the load of a whole
+//! file. Prints what became of them.
 #![tactic(auto)]
 
 use draws::Draw;

@@ -1,4 +1,4 @@
-// Small sheets for the trials: random ones, and the best pairing of each by trying all.
+//! Small sheets for the trials: random ones, and the best pairing of each by trying all.
 #![tactic(auto)]
 
 pub mod groups;
@@ -12,8 +12,8 @@ use draws::Draw;
 // How many pairings there are, with those that give a carrier a job that it may not take: five choices for each of four carriers.
 const PAIRINGS: u32 = 625;
 
-// What each job is worth to each carrier, at most four of each; 0 where a carrier may not take a job. The three numbers are
-// no `Heading`, since grids rest on no crate that the trials try; the worths are an array, since a grid is copied whole.
+/// What each job is worth to each carrier, at most four of each; 0 where a carrier may not take a job. The three numbers are
+/// no `Heading`, since grids rest on no crate that the trials try; the worths are an array, since a grid is copied whole.
 #[derive(Clone, Copy, PartialEq, Eq, Debug)]
 pub struct Grid {
     pub carriers: usize,
@@ -23,7 +23,7 @@ pub struct Grid {
 }
 
 impl Grid {
-    // A random grid with some entries left out, and with a ceiling of at most this, or of 1.
+    /// A random grid with some entries left out, and with a ceiling of at most this, or of 1.
     pub fn draw(draw: &mut Draw, most: u64) -> Grid
         ensures drawn { (result, draw.new.state) ≡ grid_drawn most draw.old.state }
         ensures within { Within most result }
@@ -45,7 +45,7 @@ impl Grid {
         }
     }
 
-    // What a job is worth to a carrier; 0 where there is no such carrier or job.
+    /// What a job is worth to a carrier; 0 where there is no such carrier or job.
     pub fn worth(&self, carrier: usize, job: usize) -> u64
         ensures { result ≡ worth_at self.now.worths carrier job }
     {
@@ -56,7 +56,7 @@ impl Grid {
             .unwrap_or(0)
     }
 
-    // The grid with the ceiling and all worths times a factor; what is too large for 64 bits becomes the largest number there.
+    /// The grid with the ceiling and all worths times a factor; what is too large for 64 bits becomes the largest number there.
     pub fn times(&self, factor: u64) -> Grid
         ensures counts { (result.carriers ≡ self.now.carriers) × (result.jobs ≡ self.now.jobs) }
         ensures ceiling { result.ceiling ≡ capped (self.now.ceiling * factor) }
@@ -73,7 +73,7 @@ impl Grid {
         }
     }
 
-    // The grid in which a worth below a floor is 0, with the ceiling as it was.
+    /// The grid in which a worth below a floor is 0, with the ceiling as it was.
     pub fn floor(&self, floor: u64) -> Grid
         ensures counts { (result.carriers ≡ self.now.carriers) × (result.jobs ≡ self.now.jobs) }
         ensures ceiling { result.ceiling ≡ self.now.ceiling }
@@ -86,7 +86,7 @@ impl Grid {
         Grid { worths, ..*self }
     }
 
-    // The grid in which only these carriers may take a job.
+    /// The grid in which only these carriers may take a job.
     pub fn only(&self, carriers: &[bool; 4]) -> Grid
         ensures counts { (result.carriers ≡ self.now.carriers) × (result.jobs ≡ self.now.jobs) }
         ensures ceiling { result.ceiling ≡ self.now.ceiling }
@@ -102,7 +102,7 @@ impl Grid {
         Grid { worths, ..*self }
     }
 
-    // The most that any pairing is worth.
+    /// The most that any pairing is worth.
     pub fn best(&self) -> u64
         ensures { IsBest self.now.worths result }
     {

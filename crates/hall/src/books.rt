@@ -1,4 +1,4 @@
-// The hall's books.
+//! The hall's books.
 ghost use Rattle.hall.specs.Kept.{Kept};
 
 use auction::standing::{Counts, Standing};
@@ -18,8 +18,8 @@ struct Lot {
     holder: Option<usize>,
 }
 
-// Of `lots` the first `noted.jobs` are used, and of `standings` the first `noted.carriers`. Arrays: no heap is used here, since C
-// calls it.
+/// Of `lots` the first `noted.jobs` are used, and of `standings` the first `noted.carriers`. Arrays: no heap is used here, since C
+/// calls it.
 #[derive(Drop)]
 pub struct Books {
     // What start noted of the source.

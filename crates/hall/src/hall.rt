@@ -1,4 +1,4 @@
-// The hall and its calls.
+//! The hall and its calls.
 ghost use Rattle.std.specs.Prelude.{◌≡◌, false, is_ok, IfOk, IfErr, Some, None, OnOk};
 ghost use Rattle.hall.specs.declared.books.Books.{Books};
 ghost use Rattle.hall.specs.InBooks.{NotedOf, Between, tally_of};
@@ -18,9 +18,9 @@ use refusals::Refusal;
 use sources::asking::heading_of;
 use sources::source::Source;
 
-// A hall owns its source, any source, and its books; it has none before the first start. Every call acts on that hall: it answers as the rule
-// says, leaves the tally that the rule says, and leaves the source as it was; a refused call leaves the books as they were. Each call
-// promises that of its own, the source (`kept`) too: no type can say what a call leaves.
+/// A hall owns its source, any source, and its books; it has none before the first start. Every call acts on that hall: it answers as the rule
+/// says, leaves the tally that the rule says, and leaves the source as it was; a refused call leaves the books as they were. Each call
+/// promises that of its own, the source (`kept`) too: no type can say what a call leaves.
 #[derive(Drop)]
 pub struct Hall<S: Source> {
     source: S,
@@ -31,7 +31,7 @@ pub struct Hall<S: Source> {
 }
 
 impl<S: Source> Hall<S> {
-    // A hall that was never started.
+    /// A hall that was never started.
     pub fn new(source: S) -> Self
         ensures kept { result.source ≡ source }
         ensures tallied { tally_of result.books ≡ None }
@@ -42,8 +42,8 @@ impl<S: Source> Hall<S> {
         }
     }
 
-    // Begins an auction, or begins anew: no job costs anything or has a holder, every carrier waits, and nothing is counted yet.
-    // Refused, in this order: counts of the source outside the limits, step outside 1 to 2^36, lanes outside 1 to 32.
+    /// Begins an auction, or begins anew: no job costs anything or has a holder, every carrier waits, and nothing is counted yet.
+    /// Refused, in this order: counts of the source outside the limits, step outside 1 to 2^36, lanes outside 1 to 32.
     pub fn start(&mut self, step: u64, lanes: usize) -> Result<(), Refusal>
         ensures ruled { Ruled (λ m _. start_answer step lanes m) (start_tally step lanes) (S.meaning self.old.source) self.old.books self.new.books result }
         ensures kept { self.new.source ≡ self.old.source }
@@ -53,8 +53,8 @@ impl<S: Source> Hall<S> {
         Ok(())
     }
 
-    // Opens a bid for a carrier that waits; none of its row is looked at yet.
-    // Refused, in this order: never started, carrier number too large, not waiting.
+    /// Opens a bid for a carrier that waits; none of its row is looked at yet.
+    /// Refused, in this order: never started, carrier number too large, not waiting.
     pub fn summon(&mut self, carrier: usize) -> Result<(), Refusal>
         ensures ruled { Ruled (summon_answer carrier) (summon_tally carrier) (S.meaning self.old.source) self.old.books self.new.books result }
         ensures kept { self.new.source ≡ self.old.source }
@@ -65,8 +65,8 @@ impl<S: Source> Hall<S> {
             .summon(&self.source, carrier)
     }
 
-    // Looks further along the row of a bidding carrier, at the prices now: by as many entries as there are lanes, or to the end of the row.
-    // Refused, in this order: never started, carrier number too large, no open bid, row fully looked at.
+    /// Looks further along the row of a bidding carrier, at the prices now: by as many entries as there are lanes, or to the end of the row.
+    /// Refused, in this order: never started, carrier number too large, no open bid, row fully looked at.
     pub fn look(&mut self, carrier: usize) -> Result<(), Refusal>
         ensures ruled { Ruled (look_answer carrier) (look_tally carrier) (S.meaning self.old.source) self.old.books self.new.books result }
         ensures looks { OnOk result (Between (Looks (S.meaning self.old.source) carrier) (tally_of self.old.books) (tally_of self.new.books)) }
@@ -78,8 +78,8 @@ impl<S: Source> Hall<S> {
             .look(&self.source, carrier)
     }
 
-    // Ends a carrier's open bid once its whole row is looked at: out, stale or awarded.
-    // Refused, in this order: never started, carrier number too large, no open bid, entries not looked at.
+    /// Ends a carrier's open bid once its whole row is looked at: out, stale or awarded.
+    /// Refused, in this order: never started, carrier number too large, no open bid, entries not looked at.
     pub fn settle(&mut self, carrier: usize) -> Result<Verdict, Refusal>
         ensures ruled { Ruled (settle_answer carrier) (settle_tally carrier) (S.meaning self.old.source) self.old.books self.new.books result }
         ensures kept { self.new.source ≡ self.old.source }
@@ -90,8 +90,8 @@ impl<S: Source> Hall<S> {
             .settle(&self.source, carrier)
     }
 
-    // Makes summonses, looks and settles by its rule, until nobody waits or bids or the budget is used up, and answers how many of each it made.
-    // Refused, in this order: never started, depth outside 1 to 128.
+    /// Makes summonses, looks and settles by its rule, until nobody waits or bids or the budget is used up, and answers how many of each it made.
+    /// Refused, in this order: never started, depth outside 1 to 128.
     pub fn run(&mut self, depth: usize, budget: u64) -> Result<Report, Refusal>
         ensures ruled { Ruled (run_answer depth budget) (run_tally depth budget) (S.meaning self.old.source) self.old.books self.new.books result }
         ensures reported { IfOk result (λ p. Between (λ t u. Reports budget t u p) (tally_of self.old.books) (tally_of self.new.books)) }
@@ -113,7 +113,7 @@ impl<S: Source> Hall<S> {
         self.books.as_ref().ok_or(Refusal::NeverStarted)
     }
 
-    // The price of a job. Refused, in this order: never started, job number too large.
+    /// The price of a job. Refused, in this order: never started, job number too large.
     pub fn price(&self, job: usize) -> Result<u64, Refusal>
         ensures answered { result ≡ price_answer job (S.meaning self.now.source) (tally_of self.now.books) }
         ensures laws { Lawful (S.meaning self.now.source) (tally_of self.now.books) }
@@ -121,7 +121,7 @@ impl<S: Source> Hall<S> {
         self.started()?.price(job)
     }
 
-    // The carrier that holds a job, if there is one. Refused as the price is.
+    /// The carrier that holds a job, if there is one. Refused as the price is.
     pub fn holder(&self, job: usize) -> Result<Option<usize>, Refusal>
         ensures answered { result ≡ holder_answer job (S.meaning self.now.source) (tally_of self.now.books) }
         ensures laws { Lawful (S.meaning self.now.source) (tally_of self.now.books) }
@@ -129,7 +129,7 @@ impl<S: Source> Hall<S> {
         self.started()?.holder(job)
     }
 
-    // A carrier's standing, with its unfinished bid. Refused, in this order: never started, carrier number too large.
+    /// A carrier's standing, with its unfinished bid. Refused, in this order: never started, carrier number too large.
     pub fn standing(&self, carrier: usize) -> Result<Standing, Refusal>
         ensures answered { result ≡ standing_answer carrier (S.meaning self.now.source) (tally_of self.now.books) }
         ensures laws { Lawful (S.meaning self.now.source) (tally_of self.now.books) }
@@ -137,7 +137,7 @@ impl<S: Source> Hall<S> {
         self.started()?.standing(carrier)
     }
 
-    // The total worth of the jobs that are held. Refused if never started.
+    /// The total worth of the jobs that are held. Refused if never started.
     pub fn worth(&self) -> Result<u64, Refusal>
         ensures answered { result ≡ worth_answer (S.meaning self.now.source) (tally_of self.now.books) }
         ensures laws { Lawful (S.meaning self.now.source) (tally_of self.now.books) }
@@ -145,7 +145,7 @@ impl<S: Source> Hall<S> {
         Ok(self.started()?.worth())
     }
 
-    // The counts of summonses, awards, stale bids and outs. Refused if never started.
+    /// The counts of summonses, awards, stale bids and outs. Refused if never started.
     pub fn counts(&self) -> Result<Counts, Refusal>
         ensures answered { result ≡ counts_answer (S.meaning self.now.source) (tally_of self.now.books) }
         ensures laws { Lawful (S.meaning self.now.source) (tally_of self.now.books) }
@@ -153,7 +153,7 @@ impl<S: Source> Hall<S> {
         Ok(self.started()?.counts())
     }
 
-    // Makes one call, and gives its answer.
+    /// Makes one call, and gives its answer.
     #[tactic(auto, unfolding(auction::specs::Calls::answer_to, auction::specs::Calls::tally_by))]
     pub fn perform(&mut self, call: Call) -> Result<Answer, Refusal>
         ensures answered { result ≡ answer_to (S.meaning self.old.source) (tally_of self.old.books) call }

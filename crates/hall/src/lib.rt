@@ -1,4 +1,4 @@
-// The hall: an auction over any source of worth, call by call, and lists of calls.
+//! The hall: an auction over any source of worth, call by call, and lists of calls.
 #![tactic(auto)]
 
 pub mod books;

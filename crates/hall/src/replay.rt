@@ -1,4 +1,4 @@
-// A list of calls on any hall, and on a new one.
+//! A list of calls on any hall, and on a new one.
 ghost use Rattle.std.specs.Prelude.{◌≡◌, true, false, length, is_ok, if◌then◌else◌, None, Ok, Err, nat_le};
 ghost use Rattle.hall.specs.InBooks.{tally_of};
 ghost use Rattle.hall.specs.Replayed.{Performed, Replayed};
@@ -9,7 +9,7 @@ use refusals::Refusal;
 use sources::source::Source;
 
 impl<S: Source> Hall<S> {
-    // Performs the calls in their order, and writes each answer. Answers too few for the calls are refused, and then nothing is written or performed.
+    /// Performs the calls in their order, and writes each answer. Answers too few for the calls are refused, and then nothing is written or performed.
     pub fn perform_all(
         &mut self,
         calls: &[Call],
@@ -31,7 +31,7 @@ impl<S: Source> Hall<S> {
     }
 }
 
-// Performs the calls in their order on a new hall, and writes each answer. Answers too few for the calls are refused, and then nothing is written or performed.
+/// Performs the calls in their order on a new hall, and writes each answer. Answers too few for the calls are refused, and then nothing is written or performed.
 pub fn replay<S: Source>(
     source: S,
     calls: &[Call],

@@ -1,4 +1,4 @@
-// Auctions call by call.
+//! Auctions call by call.
 use crate::sheets::{bid, hall_of, table_hall, won};
 use auction::standing::{Best, Bid, Standing, Verdict};
 use hall::hall::Hall;

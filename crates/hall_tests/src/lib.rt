@@ -1,4 +1,4 @@
-// Tests of the hall and of rings on examples. The crates themselves are proved for all input.
+//! Tests of the hall and of rings on examples. The crates themselves are proved for all input.
 #![tactic(auto)]
 
 #[cfg(test)]

@@ -1,4 +1,4 @@
-// Every refusal of every call, in checking order.
+//! Every refusal of every call, in checking order.
 use crate::sheets::{bid, hall_of, table_hall, won};
 use auction::standing::Verdict;
 use hall::hall::Hall;

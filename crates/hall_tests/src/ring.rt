@@ -1,4 +1,4 @@
-// Rings of carrier numbers, and of carriers with the looks that they have left.
+//! Rings of carrier numbers, and of carriers with the looks that they have left.
 use auction::standing::InFlight;
 use refusals::Refusal;
 use rings::Ring;

@@ -1,4 +1,4 @@
-// Runs and questions.
+//! Runs and questions.
 use crate::sheets::{hall_of, table_hall};
 use auction::call::{Answer, Call};
 use auction::standing::{Best, Bid, Counts, Ending, Held, Report, Standing};

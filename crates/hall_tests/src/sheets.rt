@@ -1,4 +1,4 @@
-// Sheets that the tests share, and the steps of a bid on them.
+//! Sheets that the tests share, and the steps of a bid on them.
 use auction::standing::{Award, Verdict};
 use hall::hall::Hall;
 use refusals::Refusal;

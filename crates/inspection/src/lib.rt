@@ -1,4 +1,4 @@
-// What `inspect` prints of a sheet file.
+//! What `inspect` prints of a sheet file.
 #![tactic(auto)]
 
 ghost use Rattle.std.specs.Prelude.{◌≡◌, ◌++◌, length, IfOk, OnOk, string_bytes};
@@ -20,9 +20,9 @@ use texts::{Failure, Printed};
 // The most bytes that are inspected, and the most entries of a sheet that is.
 pub use sheetfile::whole::{MOST_BYTES, MOST_ENTRIES};
 
-// Loads some bytes as a sheet file, and lists what it holds. Written again it would be the same bytes, as the text says:
-// that is proved, so it is not tried. More than 32,768 bytes are refused before any is read. It fails only for want of
-// memory.
+/// Loads some bytes as a sheet file, and lists what it holds. Written again it would be the same bytes, as the text says:
+/// that is proved, so it is not tried. More than 32,768 bytes are refused before any is read. It fails only for want of
+/// memory.
 pub fn inspect_sheet(heap: Global, bytes: &[u8]) -> Result<Printed<Fault>, AllocError>
     ensures told { IfOk result (λ p. Tells p (length bytes.now) (loaded_within bytes.now)) }
     ensures file { IfOk result (λ p. TellsFile p bytes.now) }

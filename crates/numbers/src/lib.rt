@@ -8,11 +8,11 @@ ghost use Rattle.numbers.specs.Writing.{over, write_at};
 
 use refusals::{Fault, Refusal};
 
-// The most groups that a number of a sheet file may have.
+/// The most groups that a number of a sheet file may have.
 pub const MOST_GROUPS: usize = 6;
 
-// Reads the number that begins at a place: its value, and the place behind it. The place stands beside the bytes, here
-// and in writing, since refusals tell it and callers go on from it.
+/// Reads the number that begins at a place: its value, and the place behind it. The place stands beside the bytes, here
+/// and in writing, since refusals tell it and callers go on from it.
 pub fn read_number(bytes: &[u8], at: usize) -> Result<(u64, usize), Fault>
     ensures value { result ≡ read_at bytes.now at }
     ensures exact { ReadsExactly bytes.now at result }
@@ -88,7 +88,7 @@ fn is_padded(groups_before: usize, last: u64) -> bool
     groups_before > 0 && last == 0
 }
 
-// How many bytes a number has when it is written; more than six cannot be written.
+/// How many bytes a number has when it is written; more than six cannot be written.
 pub fn number_len(n: u64) -> usize
     ensures value { result ≡ length (encoded n) }
     ensures sized { Sized n }
@@ -97,8 +97,8 @@ pub fn number_len(n: u64) -> usize
     n.max(1).ilog(128) as usize + 1
 }
 
-// Writes a number from a place on, and gives the place behind it. Where it has more than six groups, or they do not
-// fit into the bytes, it is refused and nothing is written.
+/// Writes a number from a place on, and gives the place behind it. Where it has more than six groups, or they do not
+/// fit into the bytes, it is refused and nothing is written.
 pub fn write_number(out: &mut [u8], at: usize, n: u64) -> Result<usize, Refusal>
     ensures value { result ≡ write_at (length out.old) at n }
     ensures after { out.new ≡ (if is_ok result then over out.old at (encoded n) else out.old) }

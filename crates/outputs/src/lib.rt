@@ -1,12 +1,12 @@
-// Lent bytes that are written piece by piece: each piece goes where the last one ended, if there is room for it, and is
-// only counted if not.
+//! Lent bytes that are written piece by piece: each piece goes where the last one ended, if there is room for it, and is
+//! only counted if not.
 #![tactic(auto)]
 
 ghost use Rattle.std.specs.Prelude.{◌≡◌, ◌+◌, ◌<◌, length, min};
 ghost use Rattle.outputs.specs.Puts.{Puts};
 
-// Lent bytes, and how many bytes were put so far, which is the place of the next piece. No Vec: no heap is used here,
-// since C calls it.
+/// Lent bytes, and how many bytes were put so far, which is the place of the next piece. No Vec: no heap is used here,
+/// since C calls it.
 #[derive(Drop)]
 pub struct Output<'a> {
     bytes: &'a mut [u8],
@@ -14,7 +14,7 @@ pub struct Output<'a> {
 }
 
 impl<'a> Output<'a> {
-    // Nothing is put yet.
+    /// Nothing is put yet.
     pub fn new(bytes: &'a mut [u8]) -> Output<'a>
         ensures same { result.bytes.ghost_name ≡ bytes.entry.ghost_name }
         ensures bytes { result.bytes.now ≡ bytes.old }
@@ -23,8 +23,8 @@ impl<'a> Output<'a> {
         Output { bytes, count: 0 }
     }
 
-    // Puts a piece whole behind those before it, if there is room for it; if not, only counts its bytes. The count stops at
-    // the highest number.
+    /// Puts a piece whole behind those before it, if there is room for it; if not, only counts its bytes. The count stops at
+    /// the highest number.
     pub fn put(&mut self, piece: &[u8])
         ensures puts { Puts self.old self.new piece.now }
         ensures count { self.new.count ≡ min (self.old.count + length piece.now) usize.MAX }
@@ -38,7 +38,7 @@ impl<'a> Output<'a> {
         *count = next;
     }
 
-    // How many bytes were put, those counted that found no room.
+    /// How many bytes were put, those counted that found no room.
     pub fn len(&self) -> usize
         ensures { result ≡ self.now.count }
     {

@@ -1,4 +1,4 @@
-// The auction of a sheet.
+//! The auction of a sheet.
 ghost use Rattle.std.specs.Prelude.{◌≡◌, ◌≤◌, length, OnOk};
 ghost use Rattle.pairing.specs.Held.{HeldUnderTimes};
 ghost use Rattle.pairing.specs.Pairs.{Ends, auctioned};

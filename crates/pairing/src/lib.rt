@@ -1,4 +1,4 @@
-// Pairs the carriers and jobs of a sheet file.
+//! Pairs the carriers and jobs of a sheet file.
 #![tactic(auto)]
 
 ghost use Rattle.std.specs.Prelude.{◌≡◌, ℕ, ◌*◌, ◌≤◌, ◌⊎◌, List, length, Ok};
@@ -24,12 +24,12 @@ mod listing;
 mod loading;
 mod putting;
 
-// The most bytes that are printed: 64 for each of 128 carriers, and 128.
+/// The most bytes that are printed: 64 for each of 128 carriers, and 128.
 pub const MOST_TEXT: usize = 8320;
 
-// Pairs the carriers and jobs of a sheet file, and writes the listing. It gives the listing's length.
-// Refused: what the load refuses; 4 if the ceiling, times (carriers + 1), is above 2^36; and last of all 12 if the listing does not fit.
-// Bytes behind the listing are not touched, and none where it is refused.
+/// Pairs the carriers and jobs of a sheet file, and writes the listing. It gives the listing's length.
+/// Refused: what the load refuses; 4 if the ceiling, times (carriers + 1), is above 2^36; and last of all 12 if the listing does not fit.
+/// Bytes behind the listing are not touched, and none where it is refused.
 #[tactic(auto, using(crate::proofs::Auctions::lists_file))]
 pub fn list_pairs(sheet: &[u8], out: &mut [u8]) -> Result<usize, Refusal>
     ensures answer { result ≡ sized (listed_within sheet.now (length out.old)) }
@@ -83,17 +83,17 @@ fn list_source<S: Source>(source: &S, out: &mut [u8]) -> Result<usize, Refusal>
     Ok(ended.put_listing(out))
 }
 
-// What `pair` prints of a sheet file: how many bytes, and the refusal, if it is refused.
-// No Result: a refusal is printed too, so there is a text in each case. The text goes to a lent buffer and is not kept here, since C's
-// call lists into one of its own.
+/// What `pair` prints of a sheet file: how many bytes, and the refusal, if it is refused.
+/// No Result: a refusal is printed too, so there is a text in each case. The text goes to a lent buffer and is not kept here, since C's
+/// call lists into one of its own.
 #[derive(Drop)]
 pub struct Printed {
     pub len: usize,
     pub refusal: Option<Refusal>,
 }
 
-// Pairs the carriers and jobs of a sheet file, and writes the listing, or one line that tells the refusal.
-// Bytes behind the text are not touched.
+/// Pairs the carriers and jobs of a sheet file, and writes the listing, or one line that tells the refusal.
+/// Bytes behind the text are not touched.
 pub fn print_pairs(sheet: &[u8], text: &mut [u8; MOST_TEXT]) -> Printed
     ensures len { result.len ≡ length (printed (listed sheet.now)) }
     ensures text { text.new ≡ over text.old 0 (printed (listed sheet.now)) }

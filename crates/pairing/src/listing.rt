@@ -1,4 +1,4 @@
-// The listing of standings and counts, put piece by piece.
+//! The listing of standings and counts, put piece by piece.
 ghost use Rattle.std.specs.Prelude.{◌≡◌, ◌+◌, ◌*◌, ◌/◌, ◌≤◌, map, length, slice_index_or};
 ghost use Rattle.numbers.specs.Writing.{over};
 ghost use Rattle.auction.specs.Laws.{job_served, worth};

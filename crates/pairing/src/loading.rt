@@ -1,4 +1,4 @@
-// A file that is loaded in one reading.
+//! A file that is loaded in one reading.
 ghost use Rattle.std.specs.Prelude.{◌≡◌, ◌*◌, ◌≤◌, ◌⊎◌, length, IfOk, Ok};
 ghost use Rattle.sheetfile.specs.Layout.{SheetFile};
 ghost use Rattle.sheetfile.specs.Reading.{loaded_within};

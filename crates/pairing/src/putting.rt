@@ -1,4 +1,4 @@
-// Numbers put to lent bytes.
+//! Numbers put to lent bytes.
 ghost use Rattle.std.specs.Prelude.{◌≤◌, length};
 ghost use Rattle.outputs.specs.Puts.{Puts};
 

@@ -1,4 +1,4 @@
-// The call for hosts written in C, as a static library: include/torwhisk.h declares it.
+//! The call for hosts written in C, as a static library: include/torwhisk.h declares it.
 #![tactic(auto)]
 
 ghost use Rattle.std.specs.Prelude.{◌≡◌, ℕ, List, length, Ok};
@@ -6,7 +6,7 @@ ghost use Rattle.pairing.specs.Pairs.{AtMost, ListsFile, listed, listed_within, 
 
 use pairing::list_pairs;
 
-// The call for C hosts: the listing's length, or minus the number of the refusal.
+/// The call for C hosts: the listing's length, or minus the number of the refusal.
 #[unsafe(no_mangle)]
 pub extern "C" fn torwhisk_pair(sheet: &[u8], out: &mut [u8]) -> i64
     ensures answer { result ≡ signed_size (listed_within sheet.now (length out.old)) }

@@ -1,4 +1,4 @@
-// Random small sheets, written as files, through the public call beside a search through all pairings; and damaged files.
+//! Random small sheets, written as files, through the public call beside a search through all pairings; and damaged files.
 #![tactic(auto)]
 
 mod file;

@@ -1,4 +1,4 @@
-// A listing, read back line by line, and held against the grid.
+//! A listing, read back line by line, and held against the grid.
 use grids::Grid;
 
 // What a listing tells, if every line of it is right.

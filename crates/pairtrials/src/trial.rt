@@ -1,4 +1,4 @@
-// One sheet: its listing beside the best pairing, buffers of every kind, and damaged files.
+//! One sheet: its listing beside the best pairing, buffers of every kind, and damaged files.
 use crate::file::file_of;
 use crate::told::{Told, read_listing};
 use anyhow::{Context, ensure};

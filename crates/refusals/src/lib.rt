@@ -8,57 +8,57 @@ ghost use Rattle.refusals.specs.Faults.{fault_at, fault_of, fault_text};
 use std::error::Error;
 use std::fmt;
 
-// Why a call is refused. The list is closed, and a refused call alters nothing.
+/// Why a call is refused. The list is closed, and a refused call alters nothing.
 #[derive(Clone, Copy, Debug, PartialEq, Eq)]
 pub enum Refusal {
-    // No byte is left where a number should begin, or its bytes end before a group that ends it, and before the sixth.
+    /// No byte is left where a number should begin, or its bytes end before a group that ends it, and before the sixth.
     NumberCut = 1,
-    // A number does not end with its sixth group.
+    /// A number does not end with its sixth group.
     NumberTooLong = 2,
-    // A number has more than one group, and its last one is zero.
+    /// A number has more than one group, and its last one is zero.
     NumberPadded = 3,
-    // There are no carriers or more than 128, no jobs or more than 256, or the ceiling exceeds 2^36.
+    /// There are no carriers or more than 128, no jobs or more than 256, or the ceiling exceeds 2^36.
     CountsOutside = 4,
-    // An entry's job is not known, or does not exceed that of the entry before it in the row.
+    /// An entry's job is not known, or does not exceed that of the entry before it in the row.
     JobOutOfOrder = 5,
-    // An entry is worth 0, or more than the ceiling.
+    /// An entry is worth 0, or more than the ceiling.
     WorthOutside = 6,
-    // Another row is to be read, and all that were announced have been.
+    /// Another row is to be read, and all that were announced have been.
     NoRowLeft = 7,
-    // A file is to be closed before all announced rows have been read.
+    /// A file is to be closed before all announced rows have been read.
     RowsMissing = 8,
-    // The total at the end differs from the number of entries that were read.
+    /// The total at the end differs from the number of entries that were read.
     TotalDiffers = 9,
-    // A file has bytes behind its total.
+    /// A file has bytes behind its total.
     BytesFollow = 10,
-    // There are not carriers + 1 row starts, the first is not 0, one is below the one before it, or one is above the number of entries.
+    /// There are not carriers + 1 row starts, the first is not 0, one is below the one before it, or one is above the number of entries.
     StartsUnfit = 11,
-    // What has to be written does not fit into a table, a ring or a buffer, or what is given exceeds a limit.
+    /// What has to be written does not fit into a table, a ring or a buffer, or what is given exceeds a limit.
     TooShort = 12,
-    // No start of the hall was accepted so far.
+    /// No start of the hall was accepted so far.
     NeverStarted = 13,
-    // The step is 0 or above 2^36.
+    /// The step is 0 or above 2^36.
     StepOutside = 14,
-    // The lanes are 0 or above 32.
+    /// The lanes are 0 or above 32.
     LanesOutside = 15,
-    // The carrier number is not below the number of carriers.
+    /// The carrier number is not below the number of carriers.
     NoSuchCarrier = 16,
-    // The job number is not below the number of jobs.
+    /// The job number is not below the number of jobs.
     NoSuchJob = 17,
-    // The carrier to be summoned bids, is served or is out.
+    /// The carrier to be summoned bids, is served or is out.
     NotWaiting = 18,
-    // The carrier that is to look or to settle is not bidding.
+    /// The carrier that is to look or to settle is not bidding.
     NoOpenBid = 19,
-    // A look finds nothing left of the carrier's row.
+    /// A look finds nothing left of the carrier's row.
     RowLookedAt = 20,
-    // A settle finds entries that the bid has not looked at.
+    /// A settle finds entries that the bid has not looked at.
     RowNotLookedAt = 21,
-    // The depth is 0 or above 128.
+    /// The depth is 0 or above 128.
     DepthOutside = 22,
 }
 
 impl Refusal {
-    // The refusal's number. The numbers are 1 to 22, one a refusal.
+    /// The refusal's number. The numbers are 1 to 22, one a refusal.
     pub fn number(self) -> u8
         ensures value { result ≡ number_of self }
         ensures numbering { Numbered }
@@ -66,14 +66,14 @@ impl Refusal {
         u8::from(self)
     }
 
-    // The refusal that has a number, if one has it.
+    /// The refusal that has a number, if one has it.
     pub fn from_number(n: u8) -> Option<Refusal>
         ensures { Named n result }
     {
         Refusal::try_from(n).ok()
     }
 
-    // What the refusal says, in words.
+    /// What the refusal says, in words.
     pub fn reason(self) -> &'static str
         ensures { result.now ≡ reason_of self }
     {
@@ -117,7 +117,7 @@ impl From<Refusal> for u8 {
     }
 }
 
-// A number that no refusal has.
+/// A number that no refusal has.
 #[derive(Clone, Copy, PartialEq, Eq, Debug)]
 pub struct UnknownNumber {
     pub number: u8,
@@ -182,7 +182,7 @@ impl fmt::Display for Refusal {
 
 impl Error for Refusal {}
 
-// A refusal of a file. Some carry the byte place where the faulty number, or the surplus, begins.
+/// A refusal of a file. Some carry the byte place where the faulty number, or the surplus, begins.
 #[derive(Clone, Copy, PartialEq, Eq, Debug)]
 pub struct Fault {
     pub refusal: Refusal,
@@ -190,7 +190,7 @@ pub struct Fault {
 }
 
 impl Fault {
-    // A refusal with the place where it begins.
+    /// A refusal with the place where it begins.
     pub fn at(refusal: Refusal, place: usize) -> Fault
         ensures { result ≡ fault_at refusal place }
     {
@@ -200,7 +200,7 @@ impl Fault {
         }
     }
 
-    // A refusal that has no place.
+    /// A refusal that has no place.
     pub fn bare(refusal: Refusal) -> Fault
         ensures { result ≡ fault_of refusal }
     {

@@ -1,4 +1,4 @@
-// Replays a log of calls on a hall over a sheet file.
+//! Replays a log of calls on a hall over a sheet file.
 #![tactic(auto)]
 
 ghost use Rattle.replaying.specs.Logs.{asked_in};
@@ -20,9 +20,9 @@ pub mod log;
 mod printing;
 mod running;
 
-// Reads a log and a sheet file, performs the calls of the log on a new hall over the sheet, under the layers of the log,
-// and prints each call with its answer. What is printed of a call is read back as that call. It fails only for want of
-// memory.
+/// Reads a log and a sheet file, performs the calls of the log on a new hall over the sheet, under the layers of the log,
+/// and prints each call with its answer. What is printed of a call is read back as that call. It fails only for want of
+/// memory.
 #[tactic(auto, using(crate::proofs::PlainForms::reads_back))]
 pub fn replay_log(heap: Global, sheet: &[u8], text: &[u8]) -> Result<Printed<Trouble>, AllocError>
     ensures outcome { IfOk result (λ p. Tells p (replayed (asked_in text.now) (loaded_within sheet.now))) }

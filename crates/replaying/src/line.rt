@@ -1,4 +1,4 @@
-// What a line of a log says.
+//! What a line of a log says.
 ghost use Rattle.replaying.specs.Lines.{said_alone, said_by, said_of_one, said_of_two, said_with};
 ghost use Rattle.replaying.specs.Numerals.{number_in};
 ghost use Rattle.std.specs.Option.{option_map};

@@ -1,4 +1,4 @@
-// A log: layers and calls, a line each.
+//! A log: layers and calls, a line each.
 ghost use Rattle.std.specs.Prelude.{◌≡◌, Some};
 ghost use Rattle.replaying.specs.Logs.{Notes, Reads, asked_in, held_in, layer_more, noted_by};
 ghost use Rattle.replaying.specs.Outcomes.{trouble_text};
@@ -12,17 +12,17 @@ use std::error::Error;
 use std::fmt;
 use texts::Failure;
 
-// The most bytes of a log.
+/// The most bytes of a log.
 pub const MOST_LOG_BYTES: usize = 65536;
 
-// Why nothing is replayed.
+/// Why nothing is replayed.
 #[derive(Clone, Copy, PartialEq, Eq, Debug)]
 pub enum Trouble {
-    // The calls are refused as a whole.
+    /// The calls are refused as a whole.
     Calls(Refusal),
-    // The line of this number, from 1, is not understood, or cannot stand where it stands.
+    /// The line of this number, from 1, is not understood, or cannot stand where it stands.
     Line(usize),
-    // The sheet file is refused.
+    /// The sheet file is refused.
     Sheet(Fault),
 }
 

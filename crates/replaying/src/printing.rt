@@ -1,4 +1,4 @@
-// What is printed of a replay.
+//! What is printed of a replay.
 ghost use Rattle.replaying.specs.Shown.{answer_line, answer_lines};
 ghost use Rattle.std.specs.Prelude.{◌≡◌, ◌++◌, length, string_bytes, OnOk};
 

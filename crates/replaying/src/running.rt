@@ -1,4 +1,4 @@
-// Performs the calls of a log on a hall over a source, under the layers of the log.
+//! Performs the calls of a log on a hall over a source, under the layers of the log.
 ghost use Rattle.auction.specs.Calls.{answers_from};
 ghost use Rattle.replaying.specs.Logs.{under};
 ghost use Rattle.std.specs.Prelude.{◌≡◌, IfOk, None};

@@ -1,4 +1,4 @@
-// New rings, pushes and pops.
+//! New rings, pushes and pops.
 ghost use Rattle.rings.specs.Held.{held, room};
 ghost use Rattle.std.specs.Prelude.{◌≡◌, false, [], ◌∷◌, ◌++◌, length, is_some, is_ok, IfErr, if◌then◌else◌, ◌==◌, nat_lt};
 ghost use Rattle.std.specs.Option.{option_to_list};
@@ -7,7 +7,7 @@ use super::Ring;
 use refusals::Refusal;
 
 impl<'a, T: Copy> Ring<'a, T> {
-    // An empty ring over the places.
+    /// An empty ring over the places.
     #[tactic(auto, unfolding(crate::specs::Held::held, crate::specs::Held::room))]
     pub fn new(places: &'a mut [T]) -> Ring<'a, T>
         ensures holds { held result ≡ [] }
@@ -20,14 +20,14 @@ impl<'a, T: Copy> Ring<'a, T> {
         }
     }
 
-    // Whether the ring holds nothing.
+    /// Whether the ring holds nothing.
     pub fn is_empty(&self) -> bool
         ensures { result ≡ (length (held self.now) == 0) }
     {
         self.len() == 0
     }
 
-    // Adds at the back. A full ring refuses, and is left as it was; a place that a pop has freed is used again.
+    /// Adds at the back. A full ring refuses, and is left as it was; a place that a pop has freed is used again.
     #[tactic(auto, using(crate::proofs::Turns::length_items), unfolding(crate::specs::Held::held, crate::specs::Held::room))]
     pub fn push(&mut self, x: T) -> Result<(), Refusal>
         ensures holds { held self.new ≡ (if is_ok result then held self.old ++ x ∷ [] else held self.old) }
@@ -51,7 +51,7 @@ impl<'a, T: Copy> Ring<'a, T> {
         Ok(())
     }
 
-    // Takes the oldest away; nothing from an empty ring.
+    /// Takes the oldest away; nothing from an empty ring.
     #[tactic(auto, using(crate::proofs::Turns::length_items), unfolding(crate::specs::Held::held, crate::specs::Held::room))]
     pub fn pop(&mut self) -> Option<T>
         ensures holds { held self.old ≡ option_to_list result ++ held self.new }

@@ -1,4 +1,4 @@
-// Lists of pushes and pops.
+//! Lists of pushes and pops.
 ghost use Rattle.rings.specs.Held.{held, room};
 ghost use Rattle.rings.specs.Moves.{Performed, list_after, outcome_of};
 ghost use Rattle.rings.specs.declared.moves.Outcome.TheVariants.{Pushed, Popped};
@@ -7,14 +7,14 @@ ghost use Rattle.std.specs.Prelude.{◌≡◌, true, false, length, is_ok, if◌
 use crate::Ring;
 use refusals::Refusal;
 
-// A push or a pop.
+/// A push or a pop.
 #[derive(Clone, Copy)]
 pub enum Move<T> {
     Push(T),
     Pop,
 }
 
-// What came of it.
+/// What came of it.
 #[derive(Clone, Copy)]
 pub enum Outcome<T> {
     Pushed(Result<(), Refusal>),
@@ -22,7 +22,7 @@ pub enum Outcome<T> {
 }
 
 impl<'a, T: Copy> Ring<'a, T> {
-    // Makes one push or pop. A push that is refused, and a pop that finds nothing, leave the ring as it was.
+    /// Makes one push or pop. A push that is refused, and a pop that finds nothing, leave the ring as it was.
     pub fn perform(&mut self, step: Move<T>) -> Outcome<T>
         ensures told { result ≡ outcome_of (room self.old) (held self.old) step }
         ensures holds { held self.new ≡ list_after (room self.old) (held self.old) step }
@@ -36,7 +36,7 @@ impl<'a, T: Copy> Ring<'a, T> {
         }
     }
 
-    // Makes the pushes and pops in their order, and writes what came of each. Outcomes too few for the moves are refused, and then nothing is made or written.
+    /// Makes the pushes and pops in their order, and writes what came of each. Outcomes too few for the moves are refused, and then nothing is made or written.
     pub fn perform_all(
         &mut self,
         moves: &[Move<T>],

@@ -1,5 +1,5 @@
-// What the row of a carrier comes to, whatever the source: the worth of a job, the total, the best entry.
-// Proved from what every source promises alone.
+//! What the row of a carrier comes to, whatever the source: the worth of a job, the total, the best entry.
+//! Proved from what every source promises alone.
 #![tactic(auto)]
 
 ghost use Rattle.std.specs.Prelude.{◌≡◌};
@@ -12,7 +12,7 @@ use sources::floor::Floor;
 use sources::source::Source;
 use sources::times::Times;
 
-// What a job is worth to a carrier; 0 if the carrier's row has no entry for it.
+/// What a job is worth to a carrier; 0 if the carrier's row has no entry for it.
 pub fn worth_of<S: Source>(source: &S, carrier: usize, job: usize) -> u64
     ensures { result ≡ worth_of (S.Source.meaning source.now) carrier job }
 {
@@ -21,7 +21,7 @@ pub fn worth_of<S: Source>(source: &S, carrier: usize, job: usize) -> u64
         .map_or(0, |(_, worth)| worth)
 }
 
-// The sum of the worths of a carrier's row; `None` past the last carrier.
+/// The sum of the worths of a carrier's row; `None` past the last carrier.
 pub fn row_total<S: Source>(source: &S, carrier: usize) -> Option<u128>
     ensures { result ≡ row_total (S.Source.meaning source.now) carrier }
 {
@@ -32,8 +32,8 @@ pub fn row_total<S: Source>(source: &S, carrier: usize) -> Option<u128>
     Some(total)
 }
 
-// The entry of the greatest worth in a carrier's row, of equal worths the one with the smaller job;
-// `None` if nothing there is worth more than 0.
+/// The entry of the greatest worth in a carrier's row, of equal worths the one with the smaller job;
+/// `None` if nothing there is worth more than 0.
 pub fn best_entry<S: Source>(source: &S, carrier: usize) -> Option<(usize, u64)>
     ensures { BestIn (row_of (S.Source.meaning source.now) carrier) result }
 {
@@ -46,8 +46,8 @@ pub fn best_entry<S: Source>(source: &S, carrier: usize) -> Option<(usize, u64)>
     best
 }
 
-// What a job is worth to a carrier through a floor layer with a times layer above it: through the floor first, and
-// then through the factor, as the whole pile means.
+/// What a job is worth to a carrier through a floor layer with a times layer above it: through the floor first, and
+/// then through the factor, as the whole pile means.
 pub fn priced_worth<S: Source>(
     source: &S,
     floor: u64,

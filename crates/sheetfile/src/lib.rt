@@ -1,4 +1,4 @@
-// The sheet file: read into lent tables, and written from any source.
+//! The sheet file: read into lent tables, and written from any source.
 #![tactic(auto)]
 
 pub mod loader;

@@ -1,4 +1,4 @@
-// A loader that passes through three states, each a type of its own: bare, headed, closed. The tables are lent to each call.
+//! A loader that passes through three states, each a type of its own: bare, headed, closed. The tables are lent to each call.
 ghost use Rattle.std.specs.Prelude.{◌≡◌, ℕ, ◌+◌, ◌<◌, ◌≤◌, List, true, is_ok, IfOk, IsOkAnd, length, slice_index, slice_set, Ok};
 ghost use Rattle.std.specs.Result.{result_map_both};
 ghost use Rattle.sheetfile.specs.Begun.{Begun};
@@ -15,7 +15,7 @@ use crate::parts::Reader;
 use refusals::{Fault, Refusal};
 use sources::form::{Entry, Heading};
 
-// A loader to which a step was refused. It is as it was, and can be used again.
+/// A loader to which a step was refused. It is as it was, and can be used again.
 #[derive(Drop)]
 pub struct Refused<L> {
     pub loader: L,
@@ -31,14 +31,14 @@ impl<L: Drop> From<Refused<L>> for Fault {
     }
 }
 
-// No byte is read yet.
+/// No byte is read yet.
 #[derive(Drop)]
 pub struct Bare<'a> {
     bytes: &'a [u8],
     ghost small: { (i : ℕ) → slice_index bytes.now i < 256 },
 }
 
-// The heading is read, and so many rows with so many entries; the reader stands behind them.
+/// The heading is read, and so many rows with so many entries; the reader stands behind them.
 #[derive(Drop)]
 pub struct Headed<'a> {
     reader: Reader<'a>,
@@ -48,7 +48,7 @@ pub struct Headed<'a> {
     ghost begun: { ∥ Begun reader.bytes.now reader.at heading rows used ∥₁ },
 }
 
-// The whole file is read.
+/// The whole file is read.
 #[derive(Drop)]
 pub struct Closed {
     heading: Heading,
@@ -57,14 +57,14 @@ pub struct Closed {
 impl<'a> Bare<'a> {
     ghost use Rattle.sheetfile.specs.States.{headed_by, stand};
 
-    // A loader of some bytes.
+    /// A loader of some bytes.
     pub fn new(bytes: &'a [u8]) -> Bare<'a>
         ensures { result.bytes.now ≡ bytes.now }
     {
         Bare { bytes }
     }
 
-    // Reads the heading, and writes start 0.
+    /// Reads the heading, and writes start 0.
     pub fn read_heading(self, starts: &mut [usize]) -> Result<Headed<'a>, Refused<Bare<'a>>>
         ensures answer { result_map_both stand (λ e. e) result ≡ headed_by self.entry (heading_in self.entry.bytes.now (length starts.old)) }
         ensures starts { starts.new ≡ updated (heading_in self.entry.bytes.now (length starts.old)) starts.old (λ _. slice_set starts.old 0 0) }
@@ -109,7 +109,7 @@ impl<'a> Headed<'a> {
         Ok(count)
     }
 
-    // Reads the next row, and writes its entries and the place where it ends, which is the next start.
+    /// Reads the next row, and writes its entries and the place where it ends, which is the next start.
     pub fn read_row(&mut self, starts: &mut [usize], entries: &mut [Entry]) -> Result<(), Fault>
         ensures answer { result ≡ without_value (next_row (stand self.old) (length starts.old) (length entries.old)) }
         ensures after { RowRead (stand self.old) (stand self.new) starts.old starts.new entries.old entries.new }
@@ -147,7 +147,7 @@ impl<'a> Headed<'a> {
         Ok(())
     }
 
-    // Ends the reading, if every row is read and the total closes the file.
+    /// Ends the reading, if every row is read and the total closes the file.
     pub fn close(self) -> Result<Closed, Refused<Headed<'a>>>
         ensures answer { result ≡ closed_by self.entry (closing (stand self.entry)) }
         ensures exact { ClosesExactly self.entry.reader.bytes.now self.entry.rows result }
@@ -172,7 +172,7 @@ impl<'a> Headed<'a> {
 }
 
 impl Closed {
-    // The heading, for filling.
+    /// The heading, for filling.
     pub fn heading(&self) -> Heading
         ensures { result ≡ self.now.heading }
     {

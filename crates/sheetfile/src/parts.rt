@@ -1,4 +1,4 @@
-// The parts of a file, each read where the one before it ended.
+//! The parts of a file, each read where the one before it ended.
 ghost use Rattle.std.specs.Prelude.{◌≡◌};
 ghost use Rattle.numbers.specs.Reading.{read_at};
 ghost use Rattle.sheetfile.specs.Reading.{bounded_by, closed_at, entry_from, heading_at, number_from, row_from, row_in};

@@ -1,4 +1,4 @@
-// A file that is loaded and written again.
+//! A file that is loaded and written again.
 ghost use Rattle.std.specs.Prelude.{◌≡◌, length};
 ghost use Rattle.sheetfile.specs.Steps.{updated};
 ghost use Rattle.sheetfile.specs.Tables.{entries_after, starts_after};
@@ -9,9 +9,9 @@ use crate::writer::write;
 use refusals::{Fault, Refusal};
 use sources::form::Entry;
 
-// Loads a file into the tables and writes it again. What is accepted comes out as the same bytes, so a buffer that is
-// shorter than they are is refused before anything is written. Where it is refused, the tables and the buffer stay as
-// they were.
+/// Loads a file into the tables and writes it again. What is accepted comes out as the same bytes, so a buffer that is
+/// shorter than they are is refused before anything is written. Where it is refused, the tables and the buffer stay as
+/// they were.
 pub fn rewrite(
     bytes: &[u8],
     starts: &mut [usize],

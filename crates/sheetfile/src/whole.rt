@@ -1,4 +1,4 @@
-// Whole files.
+//! Whole files.
 ghost use Rattle.std.specs.Prelude.{◌≡◌, length, IfOk, Ok};
 ghost use Rattle.numbers.specs.Writing.{over};
 ghost use Rattle.sheetfile.specs.Laws.{LoadsEveryWithin, LoadsExactly};
@@ -18,13 +18,13 @@ use sources::checks::MOST_CARRIERS;
 use sources::form::{Entry, Heading};
 use sources::sheet::Sheet;
 
-// The most bytes of a file that the programs and the call for C hosts read.
+/// The most bytes of a file that the programs and the call for C hosts read.
 pub const MOST_BYTES: usize = 32768;
 
-// The most entries of such a file.
+/// The most entries of such a file.
 pub const MOST_ENTRIES: usize = 4096;
 
-// The most row starts: one for each carrier, and one more.
+/// The most row starts: one for each carrier, and one more.
 pub const MOST_STARTS: usize = MOST_CARRIERS + 1;
 
 // Whether a file loads into tables of such lengths; no table is written.
@@ -62,9 +62,9 @@ pub(crate) fn load_surveyed(
     Ok(loader.close()?.heading())
 }
 
-// Loads a whole file into the tables, and gives its heading: the sheet over the tables then means the file. Where it is
-// refused, the tables stay as they were.
-// Starts and entries are two parameters in this crate: the caller lends each of its tables to each call.
+/// Loads a whole file into the tables, and gives its heading: the sheet over the tables then means the file. Where it is
+/// refused, the tables stay as they were.
+/// Starts and entries are two parameters in this crate: the caller lends each of its tables to each call.
 pub fn load(bytes: &[u8], starts: &mut [usize], entries: &mut [Entry]) -> Result<Heading, Fault>
     ensures answer { result ≡ heading_answer (loaded bytes.now (length starts.old) (length entries.old)) }
     ensures starts { starts.new ≡ starts_after bytes.now starts.old (length entries.old) }
@@ -76,8 +76,8 @@ pub fn load(bytes: &[u8], starts: &mut [usize], entries: &mut [Entry]) -> Result
     load_surveyed(bytes, surveyed, starts, entries)
 }
 
-// Loads a whole file into the tables in one reading, and gives its heading: the sheet over the tables then means the file.
-// Where it is refused, the tables hold what was read until then.
+/// Loads a whole file into the tables in one reading, and gives its heading: the sheet over the tables then means the file.
+/// Where it is refused, the tables hold what was read until then.
 pub fn load_over(
     bytes: &[u8],
     starts: &mut [usize],
@@ -100,8 +100,8 @@ pub fn load_over(
     Ok(heading)
 }
 
-// The sheet over tables that hold one: of the starts, the first carriers + 1. It is refused as filling is, and never where
-// a load gave the heading and wrote the tables.
+/// The sheet over tables that hold one: of the starts, the first carriers + 1. It is refused as filling is, and never where
+/// a load gave the heading and wrote the tables.
 pub fn sheet_over<'a>(
     heading: Heading,
     starts: &'a [usize],
@@ -115,9 +115,9 @@ pub fn sheet_over<'a>(
     Ok(sheet)
 }
 
-// Loads a file of at most 32,768 bytes into tables for 128 carriers and 4,096 entries, and gives its heading: the sheet
-// over the tables then means the file. A longer file is refused before any of its bytes is read. Where it is refused, the
-// tables stay as they were.
+/// Loads a file of at most 32,768 bytes into tables for 128 carriers and 4,096 entries, and gives its heading: the sheet
+/// over the tables then means the file. A longer file is refused before any of its bytes is read. Where it is refused, the
+/// tables stay as they were.
 pub fn load_within(
     bytes: &[u8],
     starts: &mut [usize; MOST_STARTS],

@@ -1,4 +1,4 @@
-// Writes any source as a sheet file, without its zero entries.
+//! Writes any source as a sheet file, without its zero entries.
 ghost use Rattle.std.specs.Prelude.{◌≡◌, ◌^◌, ◌<◌, ◌≤◌, true, length};
 ghost use Rattle.numbers.specs.Groups.{encoded};
 ghost use Rattle.numbers.specs.Writing.{over};
@@ -91,8 +91,8 @@ fn write_file<S: Source>(source: &S, out: &mut [u8]) -> usize
     output.len()
 }
 
-// Writes a source, without its zero entries, and gives the length of its file. Bytes behind it are not touched, and none
-// where it is refused.
+/// Writes a source, without its zero entries, and gives the length of its file. Bytes behind it are not touched, and none
+/// where it is refused.
 pub fn write<S: Source>(source: &S, out: &mut [u8]) -> Result<usize, Refusal>
     ensures answer { result ≡ write_answer (S.Source.meaning source.now) (length out.old) }
     ensures after { out.new ≡ out_after result out.old (written (S.Source.meaning source.now)) }

@@ -1,4 +1,4 @@
-// What follows from the answers of any source.
+//! What follows from the answers of any source.
 ghost use Rattle.std.specs.Prelude.{◌≡◌, length, drop};
 ghost use Rattle.std.specs.Iterator.{YieldsFirst, item_count};
 ghost use Rattle.sources.specs.Meaning.{row_of};
@@ -8,7 +8,7 @@ use crate::form::Heading;
 use crate::source::Source;
 use std::ops::Range;
 
-// The three numbers of a source.
+/// The three numbers of a source.
 pub fn heading_of<S: Source>(source: &S) -> Heading
     ensures { result ≡ heading_of (S.Source.meaning source.now) }
 {
@@ -19,14 +19,14 @@ pub fn heading_of<S: Source>(source: &S) -> Heading
     }
 }
 
-// How many entries the carrier's row has; none past the last carrier.
+/// How many entries the carrier's row has; none past the last carrier.
 pub fn row_length<S: Source>(source: &S, carrier: usize) -> usize
     ensures { result ≡ length (row_of (S.Source.meaning source.now) carrier) }
 {
     source.row_len(carrier).unwrap_or(0)
 }
 
-// The entries of a carrier's row from a place on, in their order.
+/// The entries of a carrier's row from a place on, in their order.
 #[derive(Drop)]
 pub struct RowEntries<'a, S: Source> {
     source: &'a S,
@@ -35,14 +35,14 @@ pub struct RowEntries<'a, S: Source> {
     ghost whole: { places.end ≡ length (row_of (S.Source.meaning source.now) carrier) },
 }
 
-// The entries of a carrier's row; none past the last carrier.
+/// The entries of a carrier's row; none past the last carrier.
 pub fn entries<S: Source>(source: &S, carrier: usize) -> RowEntries<'_, S>
     ensures { drop result.places.start (row_of (S.Source.meaning result.source.now) result.carrier) ≡ row_of (S.Source.meaning source.now) carrier }
 {
     entries_from(source, carrier, 0)
 }
 
-// The same from a place on.
+/// The same from a place on.
 pub fn entries_from<S: Source>(source: &S, carrier: usize, place: usize) -> RowEntries<'_, S>
     ensures { drop result.places.start (row_of (S.Source.meaning result.source.now) result.carrier) ≡ drop place (row_of (S.Source.meaning source.now) carrier) }
 {

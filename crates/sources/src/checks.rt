@@ -1,20 +1,20 @@
-// What filling a sheet checks.
+//! What filling a sheet checks.
 ghost use Rattle.std.specs.Prelude.{◌≡◌, ℕ, ◌+◌, ◌<◌, ◌≤◌, true, length, slice_index};
 ghost use Rattle.sources.specs.Sheets.{within_limits, starts_good, has_start, entry_refusal, fill_verdict};
 
 use crate::form::{Entry, Heading};
 use refusals::Refusal;
 
-// The most carriers that a sheet may have.
+/// The most carriers that a sheet may have.
 pub const MOST_CARRIERS: usize = 128;
 
-// The most jobs that a sheet may have.
+/// The most jobs that a sheet may have.
 pub const MOST_JOBS: usize = 256;
 
-// The highest ceiling that a sheet may have.
+/// The highest ceiling that a sheet may have.
 pub const HIGHEST_CEILING: u64 = 1 << 36;
 
-// Whether carriers are 1 to 128, jobs 1 to 256, and the ceiling is at most 2^36.
+/// Whether carriers are 1 to 128, jobs 1 to 256, and the ceiling is at most 2^36.
 pub fn within_limits(heading: Heading) -> bool
     ensures { result ≡ within_limits heading }
 {

@@ -1,4 +1,4 @@
-// A layer that turns a worth below its floor into 0, and keeps the ceiling.
+//! A layer that turns a worth below its floor into 0, and keeps the ceiling.
 ghost use Rattle.std.specs.Prelude.{◌≡◌};
 ghost use Rattle.sources.specs.Layers.{floored, floor_of};
 ghost use Rattle.sources.specs.Laws.LayersSound.{floor_sound};
@@ -7,6 +7,7 @@ use crate::revaluing::{Revaluer, Revaluing};
 use crate::source::Source;
 use crate::visitor::Visitor;
 
+/// A source with a floor over it: worths below the floor are told as 0.
 #[derive(Drop)]
 pub struct Floor<S> {
     pub below: S,

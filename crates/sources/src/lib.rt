@@ -1,4 +1,4 @@
-// Sources of worth: what each job is worth to each carrier, told as a row of entries by rising job.
+//! Sources of worth: what each job is worth to each carrier, told as a row of entries by rising job.
 #![tactic(auto)]
 
 pub mod asking;

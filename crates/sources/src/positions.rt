@@ -1,4 +1,4 @@
-// A source over the places of carriers and jobs: the nearer a job, the more it is worth.
+//! A source over the places of carriers and jobs: the nearer a job, the more it is worth.
 ghost use Rattle.std.specs.Prelude.{◌^◌, ◌<◌};
 ghost use Rattle.sources.specs.Travel.{positions_of};
 ghost use Rattle.sources.specs.Laws.PositionsSound.{positions_sound};
@@ -6,7 +6,7 @@ ghost use Rattle.sources.specs.Laws.PositionsSound.{positions_sound};
 use crate::place::{Place, worth};
 use crate::source::Source;
 
-// Each row has an entry for each job. The ceiling is the reach.
+/// Each row has an entry for each job. The ceiling is the reach.
 #[derive(Drop)]
 pub struct Positions<'a> {
     pub carriers: &'a [Place],

@@ -1,4 +1,4 @@
-// A lent source is a source, and means what the source means.
+//! A lent source is a source, and means what the source means.
 use crate::source::Source;
 use crate::visitor::Visitor;
 

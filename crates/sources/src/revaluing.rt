@@ -1,4 +1,4 @@
-// How a layer shows a visitor the worths that it makes of those below it.
+//! How a layer shows a visitor the worths that it makes of those below it.
 ghost use Rattle.std.specs.Prelude.{◌≡◌, ℕ};
 
 use crate::visitor::Visitor;

@@ -1,4 +1,4 @@
-// A source over two lent tables: where each row starts, and the entries of all rows.
+//! A source over two lent tables: where each row starts, and the entries of all rows.
 ghost use Rattle.std.specs.Prelude.{◌≡◌, true, false, ◌||◌, length, is_some};
 ghost use Rattle.std.specs.List.{slice_get};
 ghost use Rattle.std.specs.Option.{option_map};
@@ -11,8 +11,8 @@ use crate::visitor::Visitor;
 
 pub mod filling;
 
-// The row of carrier i begins at start i and ends before start i + 1. What filling checked holds of every sheet.
-// Two lent tables and no vector of rows: no heap is used here.
+/// The row of carrier i begins at start i and ends before start i + 1. What filling checked holds of every sheet.
+/// Two lent tables and no vector of rows: no heap is used here.
 #[derive(Drop)]
 pub struct Sheet<'a> {
     heading: Heading,

@@ -1,4 +1,4 @@
-// A layer that turns a worth w into the smaller of factor × w and 2^60, and the ceiling likewise.
+//! A layer that turns a worth w into the smaller of factor × w and 2^60, and the ceiling likewise.
 ghost use Rattle.std.specs.Prelude.{◌≡◌, ◌*◌, ◌%◌, ◌^◌, ◌<◌};
 ghost use Rattle.sources.specs.Layers.{scaled, times_of};
 ghost use Rattle.sources.specs.Laws.LayersSound.{times_sound};
@@ -12,8 +12,8 @@ const HIGHEST_WORTH: u64 = 1 << 60;
 // No product of a worth below this reaches 2^60.
 const SMALL_WORTH: u64 = 1 << 28;
 
-// A struct of its own beside `Floor`: each layer is a plain value that holds the source below it, a form that the project
-// keeps (docs/DECISIONS.md).
+/// A struct of its own beside `Floor`: each layer is a plain value that holds the source below it, a form that the project
+/// keeps (docs/DECISIONS.md).
 #[derive(Drop)]
 pub struct Times<S> {
     pub below: S,

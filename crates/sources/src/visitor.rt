@@ -1,4 +1,4 @@
-// What is shown the entries of a row, one after the other.
+//! What is shown the entries of a row, one after the other.
 ghost use Rattle.std.specs.Prelude.{◌≡◌, ℕ};
 
 /// A value that goes along a row. It takes every entry, so that a source may be asked to show it any row.

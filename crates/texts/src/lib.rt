@@ -1,4 +1,4 @@
-// What comes of a call that prints.
+//! What comes of a call that prints.
 #![tactic(auto)]
 
 ghost use Rattle.std.specs.Prelude.{◌≡◌, [], ◌∷◌, ◌++◌, IfSome, IfOk, Some, string_bytes};
@@ -8,8 +8,8 @@ ghost use Rattle.texts.specs.declared.Failure.TheVariants.{Memory};
 use std::alloc::{AllocError, AllocFailed, Global};
 use std::fmt::Display;
 
-// Why no text is made: for want of memory, or since what was given is refused. A refusal is put in by
-// `map_err(Failure::Refused)`: a conversion from every E would be a second one from AllocError.
+/// Why no text is made: for want of memory, or since what was given is refused. A refusal is put in by
+/// `map_err(Failure::Refused)`: a conversion from every E would be a second one from AllocError.
 #[derive(Drop)]
 pub enum Failure<E> {
     Memory,
@@ -32,8 +32,8 @@ impl<E, T: Drop> From<AllocFailed<T>> for Failure<E> {
     }
 }
 
-// What a call prints, and why it refused what it was given, if it did. No Result: a refusal is printed too, so there is a
-// text in each case.
+/// What a call prints, and why it refused what it was given, if it did. No Result: a refusal is printed too, so there is a
+/// text in each case.
 #[derive(Drop)]
 pub struct Printed<E> {
     pub text: String,
@@ -41,7 +41,7 @@ pub struct Printed<E> {
 }
 
 impl<E: Drop> Printed<E> {
-    // A refusal: what is shown of it, as a line, is the text. It fails only for want of memory.
+    /// A refusal: what is shown of it, as a line, is the text. It fails only for want of memory.
     pub fn refusing<D: Display + Drop>(
         heap: Global,
         shown: D,
@@ -60,8 +60,8 @@ impl<E: Drop> Printed<E> {
 }
 
 impl<E: Display + Copy> Printed<E> {
-    // What came of making a text: the text, or the line of a refusal, with this word in front of what it shows. It fails
-    // only for want of memory.
+    /// What came of making a text: the text, or the line of a refusal, with this word in front of what it shows. It fails
+    /// only for want of memory.
     pub fn telling(
         heap: Global,
         word: &str,

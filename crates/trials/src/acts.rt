@@ -1,4 +1,4 @@
-// Summonses, looks and settles, those of a run too: what each of them has to alter.
+//! Summonses, looks and settles, those of a run too: what each of them has to alter.
 use crate::bids::{check_found, seen_further};
 use crate::laws::{Checks, Law};
 use crate::state::State;

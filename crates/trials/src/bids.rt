@@ -1,4 +1,4 @@
-// An open bid, reckoned anew from all the prices that it has seen.
+//! An open bid, reckoned anew from all the prices that it has seen.
 use crate::laws::{Checks, Law};
 use crate::state::State;
 use crate::terms::Terms;

@@ -1,4 +1,4 @@
-// The course of an auction: the calls one by one, and after each all that has to hold.
+//! The course of an auction: the calls one by one, and after each all that has to hold.
 use crate::acts::{act_of, after_act};
 use crate::drawn::{Answers, CALLS, NO_ANSWERS};
 use crate::laws::{Checks, Law};

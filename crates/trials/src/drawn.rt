@@ -1,4 +1,4 @@
-// What is drawn for a trial: a grid, layers and a list of calls; and the tables of the grid's sheet.
+//! What is drawn for a trial: a grid, layers and a list of calls; and the tables of the grid's sheet.
 use auction::call::{Answer, Call};
 use draws::Draw;
 use grids::Grid;

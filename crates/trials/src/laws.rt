@@ -1,4 +1,4 @@
-// The laws that the trials check, and how often each of them had something to check.
+//! The laws that the trials check, and how often each of them had something to check.
 use std::fmt;
 
 #[derive(Clone, Copy, PartialEq, Eq, Debug)]

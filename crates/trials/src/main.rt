@@ -1,6 +1,6 @@
-// Random auctions on small sheets: random lists of calls, on a sheet as it is, under a times layer, under a floor layer, and under
-// a times layer over a floor layer. After each call every law is checked by the hall's own answers, beside a search through all
-// pairings; each bid is reckoned anew from the prices that it has seen, and each run is looked inside step by step.
+//! Random auctions on small sheets: random lists of calls, on a sheet as it is, under a times layer, under a floor layer, and under
+//! a times layer over a floor layer. After each call every law is checked by the hall's own answers, beside a search through all
+//! pairings; each bid is reckoned anew from the prices that it has seen, and each run is looked inside step by step.
 #![tactic(auto)]
 
 mod acts;

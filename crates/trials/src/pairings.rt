@@ -1,4 +1,4 @@
-// What has to hold of an auction after each call: the pairing, beside a search through all pairings, the prices and the counts.
+//! What has to hold of an auction after each call: the pairing, beside a search through all pairings, the prices and the counts.
 use crate::laws::{Checks, Law};
 use crate::state::State;
 use crate::terms::Terms;

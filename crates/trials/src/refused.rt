@@ -1,4 +1,4 @@
-// Which calls the rules refuse.
+//! Which calls the rules refuse.
 use crate::acts::act_of;
 use crate::laws::{Checks, Law};
 use crate::terms::Terms;

@@ -1,5 +1,5 @@
-// Inside a run: it is made anew with every smaller budget, from the same calls before it. So the act of each step shows in the
-// difference of two states.
+//! Inside a run: it is made anew with every smaller budget, from the same calls before it. So the act of each step shows in the
+//! difference of two states.
 use crate::acts::{after_act, call_of};
 use crate::drawn::NO_ANSWERS;
 use crate::laws::{Checks, Law};

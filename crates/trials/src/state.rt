@@ -1,4 +1,4 @@
-// An auction as the trials know it: what the hall tells, and what they noted of the calls that led there.
+//! An auction as the trials know it: what the hall tells, and what they noted of the calls that led there.
 use crate::bids::PricesSeen;
 use crate::terms::Terms;
 use crate::told::Told;

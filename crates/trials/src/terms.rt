@@ -1,4 +1,4 @@
-// What an auction is held on.
+//! What an auction is held on.
 use grids::Grid;
 use std::fmt;
 

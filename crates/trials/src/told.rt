@@ -1,4 +1,4 @@
-// What a hall tells.
+//! What a hall tells.
 use crate::terms::Terms;
 use auction::standing::{Counts, Standing};
 use grids::Grid;

@@ -1,4 +1,4 @@
-// How an open bid has to end.
+//! How an open bid has to end.
 use crate::bids::{best_of, bid_of, natural, nets_at, runner_up_of, signed};
 use crate::laws::{Checks, Law};
 use crate::state::State;

@@ -1,4 +1,4 @@
-// Walks through an auction of three jobs among three carriers, call by call, and prints what each call tells.
+//! Walks through an auction of three jobs among three carriers, call by call, and prints what each call tells.
 #![tactic(auto)]
 
 use anyhow::anyhow;

@@ -1,4 +1,4 @@
-// Worked cases of the rules, each performed by calls whose contracts say what comes of it.
+//! Worked cases of the rules, each performed by calls whose contracts say what comes of it.
 #![tactic(auto)]
 
 ghost use Rattle.worked.specs.Numbers.{number_cases, WorkedNumbers};
@@ -12,7 +12,7 @@ use refusals::Fault;
 use sheetfile::whole::load;
 use sources::form::{Entry, Heading};
 
-// What is read of the worked bytes of numbers.
+/// What is read of the worked bytes of numbers.
 pub struct NumberCases {
     pub one_group: Result<(u64, usize), Fault>,
     pub two_groups: Result<(u64, usize), Fault>,
@@ -20,7 +20,7 @@ pub struct NumberCases {
     pub padded: Result<(u64, usize), Fault>,
 }
 
-// Reads the worked bytes of numbers.
+/// Reads the worked bytes of numbers.
 pub fn number_cases() -> NumberCases
     ensures value { result ≡ number_cases }
     ensures worked { WorkedNumbers }
@@ -33,13 +33,13 @@ pub fn number_cases() -> NumberCases
     }
 }
 
-// What is loaded of the worked bytes of a sheet.
+/// What is loaded of the worked bytes of a sheet.
 pub struct SheetCases {
     pub whole: Result<Heading, Fault>,
     pub one_carrier_more: Result<Heading, Fault>,
 }
 
-// Loads the worked sheet, and the same with one carrier more. Written out: no library crate is for examples.
+/// Loads the worked sheet, and the same with one carrier more. Written out: no library crate is for examples.
 pub fn sheet_cases() -> SheetCases
     ensures value { result ≡ sheet_cases }
     ensures worked { WorkedSheet }

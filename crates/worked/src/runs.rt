@@ -1,4 +1,4 @@
-// Worked runs.
+//! Worked runs.
 ghost use Rattle.std.specs.Prelude.{◌≡◌, ◌≤◌, None, Ok};
 ghost use Rattle.sources.specs.Sheets.{fill_verdict, sheet_of};
 ghost use Rattle.auction.specs.Calls.{answers_from};
@@ -51,7 +51,7 @@ fn play_table<const N: usize>(calls: [Call; N]) -> [Result<Answer, Refusal>; N]
     play(heading, &[0, 3, 6, 9], &entries, calls)
 }
 
-// Depth 1: one carrier bids at a time.
+/// Depth 1: one carrier bids at a time.
 #[tactic(auto, using(crate::proofs::Played::one_by_one_played))]
 pub fn one_by_one() -> [Result<Answer, Refusal>; 19]
     ensures value { result ≡ answers_in one_by_one }
@@ -94,7 +94,7 @@ pub fn one_by_one() -> [Result<Answer, Refusal>; 19]
     play_table(calls)
 }
 
-// Depth 3: three carriers bid, and one bid turns stale.
+/// Depth 3: three carriers bid, and one bid turns stale.
 #[tactic(auto, using(crate::proofs::Played::three_in_flight_played, crate::proofs::Played::stale_bid))]
 pub fn three_in_flight() -> [Result<Answer, Refusal>; 16]
     ensures value { result ≡ answers_in three_in_flight }
@@ -168,7 +168,7 @@ fn one_job(worth: u64) -> [Result<Answer, Refusal>; 10]
     play(heading, &[0, 1, 2], &entries, calls)
 }
 
-// Worth 3 at a price of 6.
+/// Worth 3 at a price of 6.
 #[tactic(auto, using(crate::proofs::Played::net_below_played))]
 pub fn net_below() -> [Result<Answer, Refusal>; 10]
     ensures value { result ≡ answers_in net_below }
@@ -177,7 +177,7 @@ pub fn net_below() -> [Result<Answer, Refusal>; 10]
     one_job(3)
 }
 
-// Worth 6 at a price of 6.
+/// Worth 6 at a price of 6.
 #[tactic(auto, using(crate::proofs::Played::net_zero_played))]
 pub fn net_zero() -> [Result<Answer, Refusal>; 10]
     ensures value { result ≡ answers_in net_zero }
@@ -186,7 +186,7 @@ pub fn net_zero() -> [Result<Answer, Refusal>; 10]
     one_job(6)
 }
 
-// Worth 7 at a price of 6.
+/// Worth 7 at a price of 6.
 #[tactic(auto, using(crate::proofs::Played::net_above_played))]
 pub fn net_above() -> [Result<Answer, Refusal>; 10]
     ensures value { result ≡ answers_in net_above }
@@ -195,7 +195,7 @@ pub fn net_above() -> [Result<Answer, Refusal>; 10]
     one_job(7)
 }
 
-// Two jobs of worth 9 for one carrier.
+/// Two jobs of worth 9 for one carrier.
 #[tactic(auto, using(crate::proofs::Played::smaller_job_played))]
 pub fn smaller_job() -> [Result<Answer, Refusal>; 5]
     ensures value { result ≡ answers_in smaller_job }
@@ -220,7 +220,7 @@ pub fn smaller_job() -> [Result<Answer, Refusal>; 5]
     play(heading, &[0, 2], &entries, calls)
 }
 
-// Rows 10 9 and 10 1, with a step of 10.
+/// Rows 10 9 and 10 1, with a step of 10.
 #[tactic(auto, using(crate::proofs::Played::wide_step_played, crate::proofs::Played::rival_within))]
 pub fn wide_step() -> [Result<Answer, Refusal>; 7]
     ensures value { result ≡ answers_in wide_step }
@@ -253,7 +253,7 @@ pub fn wide_step() -> [Result<Answer, Refusal>; 7]
     play(heading, &[0, 2, 4], &entries, calls)
 }
 
-// A carrier with no entries.
+/// A carrier with no entries.
 #[tactic(auto, using(crate::proofs::Played::empty_row_played))]
 pub fn empty_row() -> [Result<Answer, Refusal>; 4]
     ensures value { result ≡ answers_in empty_row }

@@ -1,5 +1,5 @@
-// The calls, on books and the source that they were started for. Source and books are lent side by side: a struct of the two
-// borrows would be a second hall.
+//! The calls, on books and the source that they were started for. Source and books are lent side by side: a struct of the two
+//! borrows would be a second hall.
 ghost use Rattle.std.specs.Prelude.{◌≡◌, ℕ, ◌^◌, ◌<◌, ◌≤◌, false, length, take, is_ok, Some, None, IfOk, OnOk, slice_index};
 ghost use Rattle.std.specs.Result.{result_map_both};
 ghost use Rattle.sources.specs.Meaning.{Meaning, row_of};

@@ -1,4 +1,4 @@
-// A look at a part of a row, in few steps for each entry.
+//! A look at a part of a row, in few steps for each entry.
 ghost use Rattle.std.specs.Prelude.{◌≡◌, ◌+◌, ◌^◌, ◌<◌, ◌≤◌, nat_lt};
 ghost use Rattle.auction.specs.Bids.{natural};
 ghost use Rattle.hall.specs.Seeing.{least};

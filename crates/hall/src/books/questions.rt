@@ -1,4 +1,4 @@
-// The questions. They tell what the tally holds.
+//! The questions. They tell what the tally holds.
 ghost use Rattle.std.specs.Prelude.{◌≡◌, ◌^◌, ◌<◌, Some, sum_by};
 ghost use Rattle.sources.specs.Meaning.{Meaning};
 ghost use Rattle.auction.specs.Tally.{total_worth, worth_served};

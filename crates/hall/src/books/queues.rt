@@ -1,4 +1,4 @@
-// Who waits in line and who is in flight during a run.
+//! Who waits in line and who is in flight during a run.
 ghost use Rattle.std.specs.Prelude.{◌≡◌, ◌<◌, ◌&&◌, [], ◌∷◌, ◌++◌, length, is_some, if◌then◌else◌, ◌==◌, nat_lt};
 ghost use Rattle.std.specs.Option.{option_to_list};
 ghost use Rattle.rings.specs.Held.{held, room};

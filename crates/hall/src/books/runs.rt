@@ -1,4 +1,4 @@
-// Run, on books and the source that they were started for.
+//! Run, on books and the source that they were started for.
 ghost use Rattle.std.specs.Prelude.{◌≡◌, ◌+◌, ◌<◌, ◌≤◌, true, [], ◌∷◌, length, Some, IfOk};
 ghost use Rattle.rings.specs.Held.{held};
 ghost use Rattle.auction.specs.Runs.{looks_for, since, beginning, waits_after, first_acts, step_by, one_step, many_steps, Reports, run_answer, run_tally};

@@ -1,4 +1,4 @@
-// New sheets, and filling them from a heading and two tables.
+//! New sheets, and filling them from a heading and two tables.
 ghost use Rattle.std.specs.Prelude.{◌≡◌, false, is_ok, if◌then◌else◌};
 ghost use Rattle.sources.specs.Meaning.{empty_meaning};
 ghost use Rattle.sources.specs.Sheets.{fill_verdict, sheet_of};
@@ -11,7 +11,7 @@ use crate::sheet::Sheet;
 use refusals::Refusal;
 
 impl<'a> Sheet<'a> {
-    // A sheet with no carriers, no jobs and ceiling 0.
+    /// A sheet with no carriers, no jobs and ceiling 0.
     pub fn new() -> Sheet<'a>
         ensures { sheet_meaning result ≡ empty_meaning }
     {
@@ -27,7 +27,7 @@ impl<'a> Sheet<'a> {
         }
     }
 
-    // Takes the heading and the tables if they make a sheet; else the sheet stays as it was.
+    /// Takes the heading and the tables if they make a sheet; else the sheet stays as it was.
     pub fn fill(
         &mut self,
         heading: Heading,
