@@ -9,7 +9,7 @@ ghost use Rattle.sources.specs.Meaning.{row_of};
 ghost use Rattle.sources.specs.OfSheet.{sheet_meaning};
 
 use refusals::{Fault, Refusal};
-use sheetfile::whole::{MOST_STARTS, load_over, sheet_over};
+use sheetfile::whole::{MOST_STARTS, load, sheet_over};
 use sources::asking::{entries, heading_of, row_length};
 use sources::form::{Entry, Heading};
 use sources::sheet::Sheet;
@@ -51,7 +51,7 @@ fn list_file(
 ) -> Result<String, Failure<Fault>>
     ensures { Lists (length bytes.now) (loaded bytes.now (length starts.old) (length entries.old)) result }
 {
-    let heading = load_over(bytes, starts, entries).map_err(Failure::Refused)?;
+    let heading = load(bytes, starts, entries).map_err(Failure::Refused)?;
     let sheet = sheet_over(heading, starts, entries).map_err(Failure::Refused)?;
     Ok(list_sheet(heap, &sheet, bytes.len())?)
 }

@@ -9,14 +9,14 @@ ghost use Rattle.pairing.specs.Pairs.{AtMost, ListsFile, auctioned, fitted, list
 
 use crate::auctioning::hold_auction;
 use crate::listing::Ended;
-use crate::loading::load_once;
+use crate::loading::load_within;
 use crate::putting::put_number;
 use auction::standing::Standing;
 use outputs::Output;
 use refusals::Refusal;
-use sheetfile::whole::{MOST_ENTRIES, MOST_STARTS, sheet_over};
+use sheetfile::owned::OwnTables;
+use sheetfile::whole::MOST_ENTRIES;
 use sources::checks::MOST_CARRIERS;
-use sources::form::Entry;
 use sources::source::Source;
 
 mod auctioning;
@@ -54,11 +54,9 @@ fn list_in<const ENTRIES: usize>(sheet: &[u8], out: &mut [u8]) -> Result<usize, 
     ensures after { out.new ≡ put_into out.old (listed_within sheet.now (length out.old)) }
     ensures short { AtMost 8320 (listed sheet.now) }
 {
-    let mut starts = [0usize; MOST_STARTS];
-    let mut entries = [Entry { job: 0, worth: 0 }; ENTRIES];
-    let heading = load_once(sheet, &mut starts, &mut entries).map_err(|fault| fault.refusal)?;
-    let source = sheet_over(heading, &starts, &entries).map_err(|fault| fault.refusal)?;
-    list_source(&source, out)
+    let mut tables = OwnTables::<ENTRIES>::new();
+    load_within(sheet, &mut tables).map_err(|fault| fault.refusal)?;
+    list_source(&tables.sheet(), out)
 }
 
 // The same of a sheet that is loaded.

@@ -1,10 +1,10 @@
 -- What the tables hold after a load.
 use Rattle.std.specs.Prelude.{◌≡◌, ℕ, ◌+◌, List, map, length, take, Ok, Err, Result}
-use Rattle.std.specs.Result.{result_map_both}
+use Rattle.std.specs.Result.{result_map_both, result_unwrap_or}
 use Rattle.refusals.specs.declared.Fault.{Fault}
 use Rattle.numbers.specs.Writing.{over}
 use Rattle.refusals.specs.Faults.{fault_of}
-use Rattle.sources.specs.Meaning.{Meaning}
+use Rattle.sources.specs.Meaning.{Meaning, empty_meaning}
 use Rattle.sources.specs.Sheets.{fill_verdict, sheet_of}
 use Rattle.sources.specs.Tables.{entries_of, entry_of, heading_of, starts_of}
 use Rattle.sources.specs.declared.form.Entry.{Entry}
@@ -29,6 +29,10 @@ entries_after bs starts entries = updated (loaded bs starts (length entries)) en
 -- What the sheet over tables means, or why there is none: as filling says of the first starts, one for each carrier and one more.
 abbrev pub sheet_in : Heading → List ℕ → List Entry → Result Meaning Fault
 sheet_in h starts entries = let front = take (h.carriers + 1) starts in result_map_both (λ _. sheet_of h front entries) fault_of (fill_verdict h front entries)
+
+-- What tables of one's own hold: the sheet over them, or the empty one.
+abbrev pub sheet_held : Heading → List ℕ → List Entry → Meaning
+sheet_held h starts entries = result_unwrap_or (sheet_in h starts entries) empty_meaning
 
 -- How many entries a row has, in the stead of the row.
 abbrev pub row_count : Result (Row × ℕ) Fault → Result (ℕ × ℕ) Fault

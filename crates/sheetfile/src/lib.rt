@@ -2,6 +2,7 @@
 #![tactic(auto)]
 
 pub mod loader;
+pub mod owned;
 mod parts;
 pub mod rewriting;
 pub mod whole;

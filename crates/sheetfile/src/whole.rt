@@ -76,9 +76,9 @@ pub fn load(bytes: &[u8], starts: &mut [usize], entries: &mut [Entry]) -> Result
     load_surveyed(bytes, surveyed, starts, entries)
 }
 
-/// Loads a whole file into the tables in one reading, and gives its heading: the sheet over the tables then means the file.
-/// Where it is refused, the tables hold what was read until then.
-pub fn load_over(
+// Loads a whole file into the tables in one reading, and gives its heading: the sheet over the tables then means the file.
+// Where it is refused, the tables hold what was read until then: so it is for tables of one's own (`OwnTables`) alone.
+pub(crate) fn load_over(
     bytes: &[u8],
     starts: &mut [usize],
     entries: &mut [Entry],
