@@ -8,7 +8,7 @@ use Rattle.std.proofs.lemmas.Bool.{cases_Bool, cond_both, eqb-true}
 use Rattle.auction.specs.declared.standing.Best.{Best}
 use Rattle.auction.specs.declared.standing.Bid.{Bid}
 use Rattle.auction.specs.Bids.{natural, beats, fresh, ranked, weighed, weighed_at}
-use Rattle.auction.proofs.Nets.{natural-up, sides, better, no_better, net_is}
+use Rattle.auction.proofs.Nets.{natural-up, sides, better, no_better}
 use Rattle.hall.specs.declared.books.Lot.{Lot}
 use Rattle.hall.specs.declared.books.glance.Glance.{Glance}
 use Rattle.hall.specs.Seeing.{least, bid_in}

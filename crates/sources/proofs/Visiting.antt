@@ -3,9 +3,9 @@ use Rattle.std.proofs.Common.{◌≡◌, ℕ, ◌+◌, ◌-◌, ◌*◌, ◌%◌
 use Rattle.std.proofs.Math.Nat.{mod-eq_of_lt}
 use Rattle.std.proofs.lemmas.Nat.{mul-lt}
 use Rattle.std.specs.List.{slice_get, AllByRecursion}
-use Rattle.std.proofs.lemmas.List.{take_min, get_or-drop}
+use Rattle.std.proofs.Math.ListN.{get_or-map}
+use Rattle.std.proofs.lemmas.List.{take_min, take-map, drop-map, get_or-drop}
 use Rattle.std.proofs.lemmas.List.Sums.{fold_more}
-use Rattle.std.proofs.lemmas.List.Folds.{fold-map}
 use Rattle.sources.specs.declared.revaluing.Revaluing.{Revaluing}
 use Rattle.sources.specs.Meaning.{Meaning, row_of}
 use Rattle.sources.specs.Layers.{revalued_entry, revalued_row, revalued, scaled}
@@ -33,28 +33,13 @@ shown_more f v row start index next d l inside e =
     ∙ sym (fold_more f v (drop start row) (index - start) d (omega (arith, length-drop start row)))
     ∙ ap (λ k. fold f v (take k (drop start row))) n
 
--- A layer's row, and any part of it.
-row_in : (h : ℕ → ℕ) (rows : List (List (ℕ × ℕ))) (i : ℕ) → get_or (map (revalued_row h) rows) i [] ≡ revalued_row h (get_or rows i [])
-row_in h [] i = refl
-row_in h (row ∷ rows) zero = refl
-row_in h (row ∷ rows) (suc i) = row_in h rows i
-
-take_mapped : {X Y : Type 0} (f : X → Y) (k : ℕ) (xs : List X) → take k (map f xs) ≡ map f (take k xs)
-take_mapped f zero xs = refl
-take_mapped f (suc k) [] = refl
-take_mapped f (suc k) (x ∷ xs) = ap (λ ys. f x ∷ ys) (take_mapped f k xs)
-
-drop_mapped : {X Y : Type 0} (f : X → Y) (k : ℕ) (xs : List X) → drop k (map f xs) ≡ map f (drop k xs)
-drop_mapped f zero xs = refl
-drop_mapped f (suc k) [] = refl
-drop_mapped f (suc k) (x ∷ xs) = drop_mapped f k xs
-
+-- Any part of a layer's row.
 pub part_revalued : (h : ℕ → ℕ) (c : ℕ) (m : Meaning) (i from count : ℕ) →
     take count (drop from (row_of (revalued h c m) i)) ≡ revalued_row h (take count (drop from (row_of m i)))
 part_revalued h c m i from count =
-    ap (λ r. take count (drop from r)) (row_in h m.rows i)
-    ∙ ap (take count) (drop_mapped (revalued_entry h) from (row_of m i))
-    ∙ take_mapped (revalued_entry h) count (drop from (row_of m i))
+    ap (λ r. take count (drop from r)) (get_or-map (revalued_row h) m.rows i [])
+    ∙ ap (take count) (drop-map (revalued_entry h) from (row_of m i))
+    ∙ take-map (revalued_entry h) count (drop from (row_of m i))
 
 -- A visitor that was shown entries through a layer was shown those of the layer.
 pub through : {R V : Type 0} (h : R → ℕ → ℕ) (f : V → ℕ × ℕ → V) (r : R) (v : V) (es : List (ℕ × ℕ)) →
@@ -101,7 +86,7 @@ row_missing (row ∷ rows) (suc i) e = row_missing rows i e
 
 -- A part of a sheet's row, as pairs.
 pub part_paired : (row : List Entry) (from count : ℕ) → take count (drop from (map pair_of row)) ≡ map pair_of (take count (drop from row))
-part_paired row from count = ap (take count) (drop_mapped pair_of from row) ∙ take_mapped pair_of count (drop from row)
+part_paired row from count = ap (take count) (drop-map pair_of from row) ∙ take-map pair_of count (drop from row)
 
 pub nothing_left : (from count : ℕ) → take {A = ℕ × ℕ} count (drop from []) ≡ []
 nothing_left zero zero = refl

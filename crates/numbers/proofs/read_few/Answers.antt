@@ -1,6 +1,5 @@
 use Rattle.std.proofs.Common.{◌≡◌, ℕ, ◌+◌, ◌-◌, ◌*◌, ◌<◌, length, get_or, drop, Ok, sym, refl, ap, ◌∙◌, rules, arith}
 use Rattle.std.proofs.lemmas.Bool.{ltb-true}
-use Rattle.numbers.specs.Groups.{decoded_in}
 use Rattle.numbers.proofs.Reading.{group_before, group_last, read_is}
 use Rattle.numbers.proofs.read_few.Goals as goal
 

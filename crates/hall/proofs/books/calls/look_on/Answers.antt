@@ -1,9 +1,8 @@
-use Rattle.std.proofs.Common.{◌≡◌, ◌<◌, ◌≤◌, ◌-◌, min, length, take, sym, ◌∙◌, arith}
+use Rattle.std.proofs.Common.{◌≡◌, ◌-◌, min, length, take, sym, ◌∙◌, arith}
 use Rattle.std.proofs.lemmas.Bool.{ltb-true}
 use Rattle.sources.specs.Meaning.{row_of}
 use Rattle.auction.specs.Bids.{natural}
 use Rattle.hall.specs.Kept.{prices_of}
-use Rattle.hall.specs.Glances.{price_held}
 use Rattle.hall.specs.Seeing.{merged, bid_in}
 use Rattle.hall.proofs.Glances.{glance_is, glance_low}
 use Rattle.hall.proofs.Seeing.{look_merged}

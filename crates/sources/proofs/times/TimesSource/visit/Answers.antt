@@ -1,6 +1,6 @@
-use Rattle.std.proofs.Common.{◌≡◌, ◌*◌, ◌%◌, ◌^◌, ◌<◌, ◌≤◌, take, drop, fold, sym, ap, ◌∙◌, arith}
+use Rattle.std.proofs.Common.{◌*◌, ◌%◌, ◌^◌, ◌<◌, ◌≤◌, take, drop, fold, sym, ap, ◌∙◌, arith}
 use Rattle.sources.specs.Meaning.{row_of}
-use Rattle.sources.specs.Layers.{scaled, revalued_row}
+use Rattle.sources.specs.Layers.{scaled}
 use Rattle.sources.proofs.Reading.{row_within}
 use Rattle.sources.proofs.Visiting.{part_revalued, through, same_made, all_in_part, small_product}
 use Rattle.sources.proofs.times.TimesSource.visit.Goals as goal
