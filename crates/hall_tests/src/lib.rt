@@ -4,6 +4,8 @@
 #[cfg(test)]
 mod examples;
 #[cfg(test)]
+mod own_source;
+#[cfg(test)]
 mod refused;
 #[cfg(test)]
 mod ring;

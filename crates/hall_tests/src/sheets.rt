@@ -21,13 +21,13 @@ const TABLE: [Entry; 9] = [
 
 const STARTS: [usize; 4] = [0, 3, 6, 9];
 
-// A hall over a sheet, never started. A sheet that cannot be filled stays empty, and a hall over it cannot be started.
-pub(crate) fn hall_of<'a>(
+// A sheet. One that cannot be filled stays empty, and a hall over it cannot be started.
+fn sheet_of<'a>(
     carriers: usize,
     jobs: usize,
     starts: &'a [usize],
     entries: &'a [Entry],
-) -> Hall<Sheet<'a>> {
+) -> Sheet<'a> {
     let heading = Heading {
         carriers,
         jobs,
@@ -35,12 +35,26 @@ pub(crate) fn hall_of<'a>(
     };
     let mut sheet = Sheet::new();
     let _ = sheet.fill(heading, starts, entries);
-    Hall::new(sheet)
+    sheet
+}
+
+// A hall over a sheet, never started.
+pub(crate) fn hall_of<'a>(
+    carriers: usize,
+    jobs: usize,
+    starts: &'a [usize],
+    entries: &'a [Entry],
+) -> Hall<Sheet<'a>> {
+    Hall::new(sheet_of(carriers, jobs, starts, entries))
 }
 
 // Three carriers and three jobs.
+pub(crate) fn table_sheet() -> Sheet<'static> {
+    sheet_of(3, 3, &STARTS, &TABLE)
+}
+
 pub(crate) fn table_hall() -> Hall<Sheet<'static>> {
-    hall_of(3, 3, &STARTS, &TABLE)
+    Hall::new(table_sheet())
 }
 
 // A bid from its summons to its verdict, with one look.

@@ -17,7 +17,8 @@ pub(crate) fn load_within<const ENTRIES: usize>(
 ) -> Result<(), Fault>
     requires room { ENTRIES ≡ 4096 ⊎ (length bytes.now ≤ 2 * ENTRIES) × (ENTRIES ≤ 4096) }
     ensures answer { result ≡ without_value (loaded_within bytes.now) }
-    ensures holds { sheet_held tables.new.heading tables.new.starts tables.new.entries ≡ updated (loaded_within bytes.now) (sheet_held tables.old.heading tables.old.starts tables.old.entries) (λ m. m) }
+    ensures holds { let held = sheet_held tables.old.heading tables.old.starts tables.old.entries in
+        sheet_held tables.new.heading tables.new.starts tables.new.entries ≡ updated (loaded_within bytes.now) held (λ m. m) }
     ensures file { IfOk result (λ _. SheetFile bytes.now (sheet_held tables.new.heading tables.new.starts tables.new.entries)) }
 {
     if bytes.len() > MOST_BYTES {

@@ -38,7 +38,8 @@ impl<const ENTRIES: usize> OwnTables<ENTRIES> {
     /// Loads a whole file: they then hold its sheet. Refused as `load` is; they then hold the sheet that they held.
     pub fn load(&mut self, bytes: &[u8]) -> Result<(), Fault>
         ensures answer { result ≡ without_value (loaded bytes.now 129 ENTRIES) }
-        ensures holds { sheet_held self.new.heading self.new.starts self.new.entries ≡ updated (loaded bytes.now 129 ENTRIES) (sheet_held self.old.heading self.old.starts self.old.entries) (λ m. m) }
+        ensures holds { let held = sheet_held self.old.heading self.old.starts self.old.entries in
+            sheet_held self.new.heading self.new.starts self.new.entries ≡ updated (loaded bytes.now 129 ENTRIES) held (λ m. m) }
     {
         // Where no sheet is held that a refused load would have to leave, one reading does.
         self.heading = if self.heading.carriers == 0 {

@@ -37,31 +37,6 @@ pub(crate) fn check_start<S: Source>(source: &S, step: u64, lanes: usize) -> Res
     }
 }
 
-// The same for any nets, entry by entry.
-#[inline(never)]
-fn look_closely<S: Source>(
-    source: &S,
-    lots: &[Lot; MOST_JOBS],
-    lanes: usize,
-    carrier: usize,
-    entries: usize,
-    bid: &mut Bid,
-)
-    requires few_jobs { (S.meaning source.now).jobs ≤ 256 }
-    requires low_prices { (j : ℕ) → slice_index (take (S.meaning source.now).jobs (prices_of lots.now)) j ≤ 2 ^ 37 }
-    requires long { entries ≡ length (row_of (S.meaning source.now) carrier) }
-    requires inside { bid.old.looked ≤ entries }
-    ensures { bid.new ≡ looked_on lanes (take (S.meaning source.now).jobs (prices_of lots.now)) (row_of (S.meaning source.now) carrier) bid.old }
-{
-    let count = lanes.min(entries - bid.looked);
-    let mut seen = Seen::nothing();
-    for place in bid.looked..bid.looked + count {
-        let (job, worth) = source.entry(carrier, place).unwrap_or((0, 0));
-        seen = seen.and(job, worth, lots[job].price);
-    }
-    *bid = merged(*bid, count, seen);
-}
-
 // Looks at the next entries of the carrier's row, as many as there are lanes, or as many as are left.
 fn look_on<S: Source>(
     source: &S,
@@ -84,6 +59,31 @@ fn look_on<S: Source>(
     } else {
         look_closely(source, lots, lanes, carrier, entries, bid);
     }
+}
+
+// The same, entry by entry, whatever the nets are: for the few looks that a glance does not tell.
+#[inline(never)]
+fn look_closely<S: Source>(
+    source: &S,
+    lots: &[Lot; MOST_JOBS],
+    lanes: usize,
+    carrier: usize,
+    entries: usize,
+    bid: &mut Bid,
+)
+    requires few_jobs { (S.meaning source.now).jobs ≤ 256 }
+    requires low_prices { (j : ℕ) → slice_index (take (S.meaning source.now).jobs (prices_of lots.now)) j ≤ 2 ^ 37 }
+    requires long { entries ≡ length (row_of (S.meaning source.now) carrier) }
+    requires inside { bid.old.looked ≤ entries }
+    ensures { bid.new ≡ looked_on lanes (take (S.meaning source.now).jobs (prices_of lots.now)) (row_of (S.meaning source.now) carrier) bid.old }
+{
+    let count = lanes.min(entries - bid.looked);
+    let mut seen = Seen::nothing();
+    for place in bid.looked..bid.looked + count {
+        let (job, worth) = source.entry(carrier, place).unwrap_or((0, 0));
+        seen = seen.and(job, worth, lots[job].price);
+    }
+    *bid = merged(*bid, count, seen);
 }
 
 // What a carrier's standing and the call together lead to: the bid that the call begins, carries on or finds ready to be judged.
