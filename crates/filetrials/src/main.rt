@@ -1,16 +1,20 @@
 //! Whole, damaged and random sheet files through the loader, the same ones in each run: every accepted one is written
-//! again and compared, also to a buffer that is too short, and the three states are compared with the load of a whole
-//! file. Prints what became of them.
+//! again and compared, also to a buffer that is too short, and the three states and tables of one's own are compared with
+//! the load of a whole file. Prints what became of them.
 #![tactic(auto)]
 
 use draws::Draw;
 use grids::groups::push_number;
 use refusals::{Fault, Refusal};
 use sheetfile::loader::Bare;
+use sheetfile::owned::OwnTables;
 use sheetfile::rewriting::rewrite;
 use sheetfile::whole::{load, sheet_over};
+use sources::asking::{heading_of, row_length};
 use sources::checks::MOST_CARRIERS;
 use sources::form::{Entry, Heading};
+use sources::sheet::Sheet;
+use sources::source::Source;
 use std::alloc::{AllocError, Global};
 use std::collections::BTreeMap;
 use std::fmt;
@@ -129,7 +133,7 @@ impl Tally {
     // Loads a file and writes it again, and counts what became of it.
     fn examine(&mut self, bytes: &[u8]) -> Result<(), AllocError> {
         let (answer, right) = write_again(bytes, OUT.len());
-        let right = right && agrees(bytes, answer);
+        let right = right && agrees(bytes, answer) && owned_agrees(bytes);
         match answer {
             Ok(_) => {
                 self.accept(right && refused_if_short(bytes));
@@ -219,6 +223,46 @@ fn agrees(bytes: &[u8], written: Result<usize, Fault>) -> bool {
         Err(_) => starts == STARTS && entries == ENTRIES,
     };
     right && whole == by_states && whole.map(|_| bytes.len()) == written
+}
+
+// Whether two sources tell the same row.
+fn same_row<A: Source, B: Source>(first: &A, second: &B, carrier: usize) -> bool {
+    (0..=row_length(first, carrier)).all(|place| first.entry(carrier, place)
+        == second.entry(carrier, place))
+}
+
+// Whether two sources tell the same three numbers and rows.
+fn same_sheet<A: Source, B: Source>(first: &A, second: &B) -> bool {
+    heading_of(first) == heading_of(second)
+        && (0..=first.carriers()).all(|carrier| same_row(first, second, carrier))
+}
+
+// A sheet of one carrier, which wants job 1.
+const HELD: [u8; 7] = *b"\x01\x02\x05\x01\x01\x03\x01";
+
+// Whether a file comes to the same in tables of one's own that hold no sheet, and in ones that hold one: the sheet over lent
+// tables, or the same refusal. Where it is refused, they tell the sheet that they told before.
+fn owned_agrees(bytes: &[u8]) -> bool {
+    let mut starts = [0; MOST_CARRIERS + 1];
+    let mut entries = ENTRIES;
+    let mut empty = OwnTables::<20>::new();
+    let mut held = OwnTables::<20>::new();
+    let begun = held.load(&HELD).is_ok();
+    let answer = empty.load(bytes);
+    let right = match load(bytes, &mut starts, &mut entries) {
+        Ok(heading) => match sheet_over(heading, &starts, &entries) {
+            Ok(sheet) => answer.is_ok() && same_sheet(&empty.sheet(), &sheet),
+            Err(_) => false,
+        },
+        Err(fault) => answer == Err(fault) && same_sheet(&empty.sheet(), &Sheet::new()),
+    };
+    let same = held.load(bytes) == answer;
+    let mut before = OwnTables::<20>::new();
+    let told = match answer {
+        Ok(()) => same_sheet(&held.sheet(), &empty.sheet()),
+        Err(_) => before.load(&HELD).is_ok() && same_sheet(&held.sheet(), &before.sheet()),
+    };
+    begun && right && same && told
 }
 
 // Loads a file and writes it again to so many bytes of the buffer. Gives the answer, and whether the buffer then begins
