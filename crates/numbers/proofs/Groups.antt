@@ -1,5 +1,6 @@
 -- What the bytes of a number are, group by group, and how many there are.
 use Rattle.std.proofs.Common.{◌≡◌, ℕ, zero, suc, ◌+◌, ◌*◌, ◌/◌, ◌%◌, ◌^◌, ◌<◌, ◌≤◌, max, [], ◌∷◌, length, sym, ap, ◌∙◌, ⊎_elim, arith}
+use native.Mathlib.Nat.{one-le-pow}
 use Rattle.std.proofs.lemmas.Bool.{cases_lt, lt-ltb, le-ltb}
 use Rattle.numbers.specs.Groups.{groups, encoded}
 use Rattle.numbers.specs.Laws.{Sized}
@@ -47,15 +48,11 @@ encoded_few (suc k) n small =
     (λ l. omega (arith, ap length (encoded_large n l), encoded_few k (n / 128) (omega arith)))
     (cases_lt n 128)
 
-pub pow_pos : (k : ℕ) → 0 < 128 ^ k
-pow_pos zero = omega arith
-pow_pos (suc k) = omega (arith, pow_pos k)
-
 pub encoded_below : (k n : ℕ) → length (encoded n) ≤ k → n < 128 ^ k
 encoded_below zero n few = absurd (omega (arith, encoded_some n))
 encoded_below (suc k) n few =
     ⊎_elim
-    (λ s. omega (arith, pow_pos k))
+    (λ s. omega (arith, one-le-pow k 128 (omega arith)))
     (λ l. let m : n / 128 < 128 ^ k = encoded_below k (n / 128) (omega (arith, ap length (encoded_large n l))) in omega arith)
     (cases_lt n 128)
 
@@ -67,7 +64,7 @@ not_fewer : (k n : ℕ) → 128 ^ k ≤ max n 1 → k < length (encoded n)
 not_fewer zero n low = omega (arith, encoded_some n)
 not_fewer (suc k) n low =
     ⊎_elim
-    (λ few. absurd (omega (arith, pow_pos k, encoded_below (suc k) n (omega arith))))
+    (λ few. absurd (omega (arith, one-le-pow k 128 (omega arith), encoded_below (suc k) n (omega arith))))
     (λ many. omega arith)
     (cases_lt (length (encoded n)) (suc (suc k)))
 

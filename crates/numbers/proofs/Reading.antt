@@ -1,6 +1,6 @@
 -- What reading takes: the bytes of a number, with anything behind them, and nothing else.
 use Rattle.std.proofs.Common.{◌≡◌, ℕ, zero, suc, ◌+◌, ◌-◌, ◌*◌, ◌/◌, ◌%◌, ◌^◌, ◌<◌, ◌≤◌, true, false, cond, ◌&&◌, eqb, ltb, List, [], ◌∷◌, ◌++◌, length, get_or, take, drop, Ok, Err, Result, sym, refl, ap, ◌∙◌, ⊎_elim, pow-suc, add-one, arith}
-use native.Mathlib.Nat.{pow-le-pow_right}
+use native.Mathlib.Nat.{one-le-pow, pow-le-pow_right}
 use Rattle.std.proofs.lemmas.List.{drop_all, drop_more, get_or-take, length-drop, length-take}
 use Rattle.std.proofs.lemmas.Bool.{cases_lt, cases_eq, lt-ltb, le-ltb, eq-eqb, ne_eqb, and_from, and_right}
 use Rattle.std.specs.List.{AllByRecursion}
@@ -8,7 +8,7 @@ use Rattle.refusals.specs.declared.Refusal.{Refusal}
 use Rattle.refusals.specs.declared.Refusal.TheVariants.{NumberCut, NumberPadded}
 use Rattle.numbers.specs.Groups.{encoded, before, decoded_in}
 use Rattle.numbers.specs.Reading.{placed, read_at}
-use Rattle.numbers.proofs.Groups.{encoded_small, encoded_large, pow_pos}
+use Rattle.numbers.proofs.Groups.{encoded_small, encoded_large}
 
 decoded_last : (k b : ℕ) (bytes : List ℕ) → b < 128 → decoded_in (suc k) (b ∷ bytes) ≡ Ok (b, bytes)
 unfolding decoded_in
@@ -81,7 +81,7 @@ accepted (suc k) (b ∷ bytes) n left (byte, small) is =
     let both : ◌≡◌ {A = ℕ × List ℕ} (n, left) (b, bytes) = cc in
     let en : n ≡ b = ap (λ (p : ℕ × List ℕ). p.0) both in
     let el : left ≡ bytes = ap (λ (p : ℕ × List ℕ). p.1) both in
-    (rw (en, el, encoded_small b s), omega (arith, pow_pos k)))
+    (rw (en, el, encoded_small b s), omega (arith, one-le-pow k 128 (omega arith))))
     (λ l. accepted_more k b bytes (decoded_in k bytes) n left byte l (λ m l' e. accepted k bytes m l' small e) (sym (decoded_more k b bytes l) ∙ is))
     (cases_lt b 128)
 

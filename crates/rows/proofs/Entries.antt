@@ -1,13 +1,12 @@
 -- A row, entry by entry: what is found in it, its total, and the step of the loop that looks for its best entry.
-use Rattle.std.proofs.Common.{◌≡◌, ℕ, ◌+◌, ◌*◌, ◌^◌, ◌<◌, ◌≤◌, eqb, List, [], ◌∷◌, ◌++◌, length, get_or, Some, None, Option, sym, refl, ap, ◌∙◌, subst, arith, rules, below_more}
+use Rattle.std.proofs.Common.{◌≡◌, ℕ, ◌+◌, ◌<◌, ◌≤◌, eqb, List, [], ◌∷◌, ◌++◌, length, get_or, Some, None, Option, sym, refl, ap, ◌∙◌, subst, arith, below_more}
 use Rattle.std.proofs.lemmas.List.{append_assoc, length-append}
 use Rattle.std.proofs.Math.Seq.{get_or-append_seam}
-use Rattle.std.proofs.lemmas.List.Sums.{sum_by-cons}
 use Rattle.sources.specs.Meaning.{Rising, worth_in}
-use Rattle.std.specs.List.{find, AllByRecursion}
+use Rattle.std.specs.List.{find}
 use Rattle.std.specs.Option.{MatchOption, option_map, unwrap_or}
 use Rattle.sources.proofs.Reading.{rising_apart}
-use Rattle.rows.specs.Totals.{job_in, worth_at, worths}
+use Rattle.rows.specs.Totals.{job_in, worth_at}
 
 module _ (row : List (ℕ × ℕ)) (k job worth : ℕ) (l : k < length row) (is : get_or row k (0, 0) ≡ (job, worth)) where
   job_is : job_in row k ≡ job
@@ -104,8 +103,3 @@ module _ (row seen left after : List (ℕ × ℕ)) (job worth : ℕ) (best : Opt
 pub most_is : {P : ℕ × ℕ → Type 0} (best : Option (ℕ × ℕ)) (most : ℕ) → MatchOption best (most ≡ 0) P → ((e : ℕ × ℕ) → P e → most ≡ e.1) → most ≡ (entry_or_none best).1
 most_is None most m h = m
 most_is (Some e) most m h = h e m
-
--- a row whose worths are at most 2 ^ 60 sums to no more than its length times that
-pub worths_within : (top : ℕ) → top ≤ 2 ^ 60 → (row : List (ℕ × ℕ)) → AllByRecursion (λ (e : ℕ × ℕ). e.1 ≤ top) row → worths row ≤ length row * 2 ^ 60
-worths_within top small [] a = search rules
-worths_within top small (e ∷ row) a = let h = a.0 in omega (arith, h, sum_by-cons (λ (x : ℕ × ℕ). x.1) e row, worths_within top small row a.1)

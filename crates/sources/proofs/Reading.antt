@@ -1,8 +1,9 @@
 -- What a reader of any source may rely on: its rows, entry by entry.
 use Rattle.std.proofs.Common.{◌≡◌, ℕ, zero, suc, ◌+◌, ◌<◌, ◌≤◌, List, [], ◌∷◌, length, get_or, drop, Some, None, Option, sym, refl, ap, ◌∙◌, add-one, drop-cons, arith}
-use Rattle.std.specs.Option.{MatchOption, option_map, unwrap_or}
+use Rattle.std.specs.Option.{MatchOption, option_map, option_and_then, unwrap_or}
 use Rattle.std.specs.List.{slice_get, AllByRecursion}
-use Rattle.sources.specs.Meaning.{Meaning, Sound, Rising, chosen, row_len, entry_at, row_of}
+use Rattle.std.proofs.lemmas.Option.{get_or_from_slice_get, unwrap_or-slice_get}
+use Rattle.sources.specs.Meaning.{Meaning, Sound, Rising, row_len, entry_at, row_of}
 
 -- ---- the length of a row, and its entries
 
@@ -32,18 +33,13 @@ row_in (row ∷ rows) (suc i) n e = row_in rows i n e
 pub row_there : (m : Meaning) (i n : ℕ) → Some n ≡ row_len m i → slice_get m.rows i ≡ Some (row_of m i)
 row_there m i n e = row_in m.rows i n (sym e)
 
-entry_in : (rows : List (List (ℕ × ℕ))) (i k : ℕ) → chosen (slice_get rows i) (λ row. slice_get row k) ≡ slice_get (get_or rows i []) k
+entry_in : (rows : List (List (ℕ × ℕ))) (i k : ℕ) → option_and_then (λ row. slice_get row k) (slice_get rows i) ≡ slice_get (get_or rows i []) k
 entry_in [] i k = refl
 entry_in (row ∷ rows) zero k = refl
 entry_in (row ∷ rows) (suc i) k = entry_in rows i k
 
 pub entry_is : (m : Meaning) (i k : ℕ) → entry_at m i k ≡ slice_get (row_of m i) k
 entry_is m i k = entry_in m.rows i k
-
-nth_some : {X : Type 0} (xs : List X) (k : ℕ) (x d : X) → slice_get xs k ≡ Some x → get_or xs k d ≡ x
-nth_some [] k x d e = let z : ◌≡◌ {A = ℕ} 0 1 = cc in absurd (omega arith)
-nth_some (y ∷ ys) zero x d e = cc
-nth_some (y ∷ ys) (suc k) x d e = nth_some ys k x d e
 
 nth_none : {X : Type 0} (xs : List X) (k : ℕ) → slice_get xs k ≡ None → length xs ≤ k
 nth_none [] k e = omega arith
@@ -58,16 +54,11 @@ entry_none m i k h = sym (entry_is m i k) ∙ sym h
 
 -- the entry that was read at a place is the one that stands there in the row
 pub entry_read : (m : Meaning) (i k : ℕ) (e : ℕ × ℕ) → Some e ≡ entry_at m i k → get_or (row_of m i) k (0, 0) ≡ e
-entry_read m i k e h = nth_some (row_of m i) k e (0, 0) (entry_some m i k e h)
-
-read_or : (xs : List (ℕ × ℕ)) (k : ℕ) → unwrap_or (slice_get xs k) (0, 0) ≡ get_or xs k (0, 0)
-read_or [] k = refl
-read_or (x ∷ xs) zero = refl
-read_or (x ∷ xs) (suc k) = read_or xs k
+entry_read m i k e h = get_or_from_slice_get (row_of m i) k e (0, 0) (entry_some m i k e h)
 
 -- the entry at a place, or a pair of zeros where the row has none
 pub entry_or : (m : Meaning) (i k : ℕ) → unwrap_or (entry_at m i k) (0, 0) ≡ get_or (row_of m i) k (0, 0)
-entry_or m i k = ap (λ o. unwrap_or o (0, 0)) (entry_is m i k) ∙ read_or (row_of m i) k
+entry_or m i k = ap (λ o. unwrap_or o (0, 0)) (entry_is m i k) ∙ unwrap_or-slice_get (row_of m i) k (0, 0)
 
 -- where none was read, the row ends
 pub entry_past : (m : Meaning) (i k : ℕ) → None ≡ entry_at m i k → length (row_of m i) ≤ k

@@ -1,6 +1,7 @@
 -- What the checks of a sheet come to, place by place.
 use Rattle.std.proofs.Common.{◌≡◌, ℕ, zero, suc, ◌+◌, ◌-◌, ◌<◌, ◌≤◌, Bool, true, false, ◌&&◌, ◌||◌, eqb, ltb, leb, List, length, get_or, Some, None, Option, sym, refl, ap, ◌∙◌, subst, ⊎_elim, add-zero, zero-add, arith}
 use Rattle.std.specs.Bool.{MatchBool}
+use Rattle.std.specs.Option.{option_or}
 use Rattle.std.specs.List.{IsAllAdjacentAnswer}
 use Rattle.std.specs.List.Sorted.{IsNonDecreasing}
 use Rattle.std.specs.Ordering.{is_le, is_some_and, nat_cmp}
@@ -11,7 +12,7 @@ use Rattle.std.proofs.Math.Bool.{or-false}
 use Rattle.sources.specs.declared.form.Entry.{Entry}
 use Rattle.sources.specs.declared.form.Heading.{Heading}
 use Rattle.refusals.specs.declared.Refusal.{Refusal}
-use Rattle.sources.specs.Sheets.{never_falls, last_of, starts_good, has_start, job_at, in_order, or_else, first_refusal}
+use Rattle.sources.specs.Sheets.{never_falls, last_of, starts_good, has_start, job_at, in_order, first_refusal}
 use Rattle.sources.specs.Laws.Starts.{never_falls_lem}
 use Rattle.sources.specs.Laws.SheetSound.{has_start_lem}
 
@@ -128,9 +129,9 @@ module _ (h : Heading) (starts : List ℕ) (count : ℕ) (long : length starts �
 
 first_from : (f : ℕ → Option Refusal) (a n d : ℕ) (r : Refusal) → ((j : ℕ) → j < d → f (a + j) ≡ None) → d < n → f (a + d) ≡ Some r → first_refusal f a n ≡ Some r
 first_from f a zero d r before l e = absurd (omega arith)
-first_from f a (suc n) zero r before l e = ap (λ o. or_else o (first_refusal f (a + 1) n)) (rw add-zero at e)
+first_from f a (suc n) zero r before l e = ap (λ o. option_or o (first_refusal f (a + 1) n)) (rw add-zero at e)
 first_from f a (suc n) (suc d) r before l e =
-    ap (λ o. or_else o (first_refusal f (a + 1) n)) (rw add-zero at (before 0 (omega arith)))
+    ap (λ o. option_or o (first_refusal f (a + 1) n)) (rw add-zero at (before 0 (omega arith)))
     ∙ first_from f (a + 1) n d r
     (λ j m. let q : (a + 1) + j ≡ a + suc j = omega arith in subst (λ x. f x ≡ None) (sym q) (before (suc j) (omega arith)))
     (omega arith)
@@ -142,7 +143,7 @@ refused_first f n k r before l e = sym (first_from f 0 n k r (λ j m. rw zero-ad
 none_from : (f : ℕ → Option Refusal) (a n : ℕ) → ((j : ℕ) → j < n → f (a + j) ≡ None) → first_refusal f a n ≡ None
 none_from f a zero all = refl
 none_from f a (suc n) all =
-    ap (λ o. or_else o (first_refusal f (a + 1) n)) (rw add-zero at (all 0 (omega arith)))
+    ap (λ o. option_or o (first_refusal f (a + 1) n)) (rw add-zero at (all 0 (omega arith)))
     ∙ none_from f (a + 1) n (λ j m. let q : (a + 1) + j ≡ a + suc j = omega arith in subst (λ x. f x ≡ None) (sym q) (all (suc j) (omega arith)))
 
 pub refused_nowhere : (f : ℕ → Option Refusal) (n k : ℕ) → ((j : ℕ) → j < k → f j ≡ None) → n ≤ k → None ≡ first_refusal f 0 n

@@ -4,18 +4,15 @@ use Rattle.std.proofs.Math.Nat.{mod-eq_of_lt}
 use Rattle.std.proofs.lemmas.Nat.{mul-lt}
 use Rattle.std.specs.List.{slice_get, AllByRecursion}
 use Rattle.std.proofs.Math.ListN.{get_or-map}
-use Rattle.std.proofs.lemmas.List.{take_min, take-map, drop-map, get_or-drop}
+use Rattle.std.proofs.lemmas.List.{take_min, drop_min, take_all, drop_all, take-map, drop-map, get_or-drop}
+use Rattle.std.proofs.lemmas.Option.{get_or_from_slice_get}
+use Rattle.std.proofs.ByRecursion.{All-take, All-drop}
 use Rattle.std.proofs.lemmas.List.Sums.{fold_more}
 use Rattle.sources.specs.declared.revaluing.Revaluing.{Revaluing}
 use Rattle.sources.specs.Meaning.{Meaning, row_of}
 use Rattle.sources.specs.Layers.{revalued_entry, revalued_row, revalued, scaled}
 use Rattle.sources.specs.declared.form.Entry.{Entry}
 use Rattle.sources.specs.Sheets.{pair_of}
-
-drop_min : {X : Type 0} (k : ℕ) (xs : List X) → drop (min k (length xs)) xs ≡ drop k xs
-drop_min zero xs = let e : min 0 (length xs) ≡ 0 = omega arith in ap (λ j. drop j xs) e
-drop_min {X = X} (suc k) [] = let e : min (suc k) 0 ≡ 0 = omega arith in ap (λ j. drop {A = X} j []) e
-drop_min (suc k) (x ∷ xs) = let e : min (suc k) (suc (length xs)) ≡ suc (min k (length xs)) = omega arith in ap (λ j. drop j (x ∷ xs)) e ∙ drop_min k xs
 
 -- So many places from one on, as far as there are such places.
 pub cut : {X : Type 0} (xs : List X) (from count start : ℕ) → start ≡ min from (length xs) → take (min count (length xs - start)) (drop start xs) ≡ take count (drop from xs)
@@ -52,19 +49,9 @@ pub same_made : (h k : ℕ → ℕ) (P : ℕ → Type 0) → ((w : ℕ) → P w 
 same_made h k P same [] a = refl
 same_made h k P same (e ∷ es) a = λ i. (e.0, same e.1 a.0 i) ∷ same_made h k P same es a.1 i
 
-all_taken : {X : Type 0} (P : X → Type 0) (k : ℕ) (xs : List X) → AllByRecursion P xs → AllByRecursion P (take k xs)
-all_taken P zero xs a = tt
-all_taken P (suc k) [] a = tt
-all_taken P (suc k) (x ∷ xs) a = (a.0, all_taken P k xs a.1)
-
-all_left : {X : Type 0} (P : X → Type 0) (k : ℕ) (xs : List X) → AllByRecursion P xs → AllByRecursion P (drop k xs)
-all_left P zero xs a = a
-all_left P (suc k) [] a = tt
-all_left P (suc k) (x ∷ xs) a = all_left P k xs a.1
-
 -- What holds of a row's entries holds of those of a part.
 pub all_in_part : {X : Type 0} (P : X → Type 0) (from count : ℕ) (xs : List X) → AllByRecursion P xs → AllByRecursion P (take count (drop from xs))
-all_in_part P from count xs a = all_taken P count (drop from xs) (all_left P from xs a)
+all_in_part P from count xs a = All-take P count (drop from xs) (All-drop P from xs a)
 
 -- The product of a small worth neither wraps nor reaches 2 ^ 60.
 pub small_product : (factor w : ℕ) → factor < 2 ^ 32 → w < 2 ^ 28 → (factor * w) % 2 ^ 64 ≡ scaled factor w
@@ -75,9 +62,7 @@ small_product factor w f l =
 -- ---- the rows of a sheet
 
 pub row_there : (rows : List (List Entry)) (i : ℕ) (r : List Entry) → Some r ≡ slice_get rows i → get_or (map (map pair_of) rows) i [] ≡ map pair_of r
-row_there [] i r e = let z : ◌≡◌ {A = ℕ} 0 1 = cc in absurd (omega arith)
-row_there (row ∷ rows) zero r e = cc
-row_there (row ∷ rows) (suc i) r e = row_there rows i r e
+row_there rows i r e = get_or-map (map pair_of) rows i [] ∙ ap (map pair_of) (get_or_from_slice_get rows i r [] (sym e))
 
 pub row_missing : (rows : List (List Entry)) (i : ℕ) → None ≡ slice_get rows i → get_or (map (map pair_of) rows) i [] ≡ []
 row_missing [] i e = refl
@@ -89,7 +74,4 @@ pub part_paired : (row : List Entry) (from count : ℕ) → take count (drop fro
 part_paired row from count = ap (take count) (drop-map pair_of from row) ∙ take-map pair_of count (drop from row)
 
 pub nothing_left : (from count : ℕ) → take {A = ℕ × ℕ} count (drop from []) ≡ []
-nothing_left zero zero = refl
-nothing_left zero (suc count) = refl
-nothing_left (suc from) zero = refl
-nothing_left (suc from) (suc count) = refl
+nothing_left from count = ap (take count) (drop_all from [] (omega arith)) ∙ take_all count [] (omega arith)

@@ -1,6 +1,6 @@
 -- What a source means: how many carriers and jobs it has, its ceiling, and a row of (job, worth) pairs for each carrier.
-use Rattle.std.specs.Prelude.{◌≡◌, ℕ, ◌+◌, ◌^◌, ◌<◌, ◌≤◌, cond, List, [], ◌∷◌, length, Some, None, Option, ◌==◌, slice_index_or}
-use Rattle.std.specs.Option.{option_map}
+use Rattle.std.specs.Prelude.{◌≡◌, ℕ, ◌+◌, ◌^◌, ◌<◌, ◌≤◌, cond, List, [], ◌∷◌, length, Option, ◌==◌, slice_index_or}
+use Rattle.std.specs.Option.{option_map, option_and_then}
 use Rattle.std.specs.List.{slice_get, AllByRecursion}
 
 pub record Meaning : Type 0 where
@@ -27,18 +27,13 @@ pub record Sound (m : Meaning) : Type 0 where
   pub within : AllByRecursion (AllByRecursion (λ e. e.1 ≤ m.ceiling)) m.rows
   pub small : m.ceiling ≤ 2 ^ 60
 
--- What f makes of a value that is there; nothing of one that is not.
-abbrev pub chosen : {A B : Type 0} → Option A → (A → Option B) → Option B
-chosen None f = None
-chosen (Some x) f = f x
-
 -- How many entries the row of carrier i has; None past the last carrier.
 abbrev pub row_len : Meaning → ℕ → Option ℕ
 row_len m i = option_map length (slice_get m.rows i)
 
 -- The pair of job and worth at place k of the row of carrier i; None where there is no such row or place.
 abbrev pub entry_at : Meaning → ℕ → ℕ → Option (ℕ × ℕ)
-entry_at m i k = chosen (slice_get m.rows i) (λ row. slice_get row k)
+entry_at m i k = option_and_then (λ row. slice_get row k) (slice_get m.rows i)
 
 -- The row of carrier i; no entries past the last carrier.
 abbrev pub row_of : Meaning → ℕ → List (ℕ × ℕ)

@@ -1,6 +1,7 @@
 -- Which refusal a heading and two tables meet when a sheet is filled from them, and what the sheet then means.
-use Rattle.std.specs.Prelude.{ℕ, zero, suc, ◌+◌, ◌-◌, ◌^◌, Bool, true, false, cond, ◌&&◌, ◌||◌, List, [], ◌∷◌, map, length, take, drop, Some, None, Ok, Err, Option, Result, ◌==◌, nat_le, nat_lt, slice_index, slice_index_or}
-use Rattle.std.specs.List.{range_with_len}
+use Rattle.std.specs.Prelude.{ℕ, zero, suc, ◌+◌, ◌-◌, ◌^◌, Bool, true, cond, ◌&&◌, ◌||◌, List, map, length, take, drop, Some, None, Ok, Err, Option, Result, ◌==◌, nat_le, nat_lt, slice_index, slice_index_or}
+use Rattle.std.specs.Option.{option_or}
+use Rattle.std.specs.List.{list_any, range_with_len}
 use Rattle.refusals.specs.declared.Refusal.{Refusal}
 use Rattle.refusals.specs.declared.Refusal.TheVariants.{CountsOutside, JobOutOfOrder, WorthOutside, StartsUnfit}
 use Rattle.sources.specs.declared.form.Entry.{Entry}
@@ -30,8 +31,7 @@ starts_good h starts count = (length starts == h.carriers + 1 && slice_index sta
 
 -- Some row starts at k.
 abbrev pub has_start : List ℕ → ℕ → Bool
-has_start [] k = false
-has_start (s ∷ ss) k = s == k || has_start ss k
+has_start starts k = list_any (λ s. s == k) starts
 
 abbrev pub no_entry : Entry
 no_entry = record { job = 0; worth = 0 }
@@ -56,14 +56,10 @@ refusal_at h starts es k =
     unless (nat_lt (job_at es k) h.jobs && in_order starts es k) JobOutOfOrder
     (unless (nat_le 1 (worth_at es k) && nat_le (worth_at es k) h.ceiling) WorthOutside None)
 
-abbrev pub or_else : Option Refusal → Option Refusal → Option Refusal
-or_else None o = o
-or_else (Some r) o = Some r
-
 -- The first refusal among the n places from k on.
 abbrev pub first_refusal : (ℕ → Option Refusal) → ℕ → ℕ → Option Refusal
 first_refusal f k zero = None
-first_refusal f k (suc n) = or_else (f k) (first_refusal f (k + 1) n)
+first_refusal f k (suc n) = option_or (f k) (first_refusal f (k + 1) n)
 
 -- The entries that stand in a row.
 abbrev pub listed : Heading → List ℕ → List Entry → List Entry

@@ -1,33 +1,29 @@
 -- What every layer keeps, and that it is sound over a sound source.
-use Rattle.std.specs.Prelude.{◌≡◌, ℕ, zero, suc, ◌+◌, ◌^◌, ◌<◌, ◌≤◌, List, [], ◌∷◌, map, length, Some, None, Option, nat_lt, refl}
+use Rattle.std.specs.Prelude.{◌≡◌, ℕ, ◌+◌, ◌^◌, ◌<◌, ◌≤◌, List, [], ◌∷◌, length, Some, None, Option, nat_lt, refl}
 use Rattle.std.proofs.Common.{ap, ◌∙◌, arith, mul-le-mul_left}
-use Rattle.std.specs.Option.{option_map}
+use Rattle.std.specs.Option.{option_map, option_and_then}
 use Rattle.std.specs.List.{slice_get, AllByRecursion}
 use Rattle.std.proofs.lemmas.Bool.{cond_both}
 use Rattle.std.proofs.lemmas.List.{length-map}
+use Rattle.std.proofs.lemmas.Option.{slice_get-map}
 use Rattle.std.proofs.ByRecursion.{All-map, All-weaker}
-use Rattle.sources.specs.Meaning.{Meaning, Sound, Rising, chosen, row_len, entry_at}
+use Rattle.sources.specs.Meaning.{Meaning, Sound, Rising, row_len, entry_at}
 use Rattle.sources.specs.Layers.{revalued_entry, revalued_row, revalued, floored, floor_of, scaled, times_of}
-
-pub nth_map : {X Y : Type 0} (f : X → Y) (xs : List X) (i : ℕ) → slice_get (map f xs) i ≡ option_map f (slice_get xs i)
-nth_map f [] i = refl
-nth_map f (x ∷ xs) zero = refl
-nth_map f (x ∷ xs) (suc i) = nth_map f xs i
 
 module _ (h : ℕ → ℕ) (c : ℕ) where
   length_in : (o : Option (List (ℕ × ℕ))) → option_map length (option_map (revalued_row h) o) ≡ option_map length o
   length_in None = refl
   length_in (Some row) = ap Some (length-map row (revalued_entry h))
 
-  nth_in : (k : ℕ) (o : Option (List (ℕ × ℕ))) → chosen (option_map (revalued_row h) o) (λ row. slice_get row k) ≡ option_map (revalued_entry h) (chosen o (λ row. slice_get row k))
+  nth_in : (k : ℕ) (o : Option (List (ℕ × ℕ))) → option_and_then (λ row. slice_get row k) (option_map (revalued_row h) o) ≡ option_map (revalued_entry h) (option_and_then (λ row. slice_get row k) o)
   nth_in k None = refl
-  nth_in k (Some row) = nth_map (revalued_entry h) row k
+  nth_in k (Some row) = slice_get-map (revalued_entry h) row k
 
   pub row_len-revalued : (m : Meaning) (i : ℕ) → row_len (revalued h c m) i ≡ row_len m i
-  row_len-revalued m i = ap (option_map length) (nth_map (revalued_row h) m.rows i) ∙ length_in (slice_get m.rows i)
+  row_len-revalued m i = ap (option_map length) (slice_get-map (revalued_row h) m.rows i) ∙ length_in (slice_get m.rows i)
 
   pub entry_at-revalued : (m : Meaning) (i k : ℕ) → entry_at (revalued h c m) i k ≡ option_map (revalued_entry h) (entry_at m i k)
-  entry_at-revalued m i k = ap (λ o. chosen o (λ row. slice_get row k)) (nth_map (revalued_row h) m.rows i) ∙ nth_in k (slice_get m.rows i)
+  entry_at-revalued m i k = ap (option_and_then (λ row. slice_get row k)) (slice_get-map (revalued_row h) m.rows i) ∙ nth_in k (slice_get m.rows i)
 
   rising_in : (low : ℕ) (row : List (ℕ × ℕ)) → Rising low row → Rising low (revalued_row h row)
   rising_in low [] r = tt

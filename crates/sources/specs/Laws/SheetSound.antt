@@ -1,6 +1,7 @@
 -- What a sheet means, from its rows, and that it is sound.
 use Rattle.std.specs.Prelude.{◌≡◌, ℕ, zero, suc, ◌+◌, ◌-◌, ◌^◌, ◌<◌, ◌≤◌, Bool, true, false, cond, ◌&&◌, ◌||◌, List, [], ◌∷◌, map, length, get_or, drop, is_some, Some, None, Decides, Option, ◌==◌, ◌≢◌, nat_eq, nat_le, nat_lt, slice_index, slice_index_or, refl}
 use Rattle.std.proofs.Common.{sym, ap, subst, ◌∙◌, ⊎_elim, arith, add-zero}
+use Rattle.std.specs.Option.{option_or}
 use Rattle.std.specs.List.{HoldsAt, AllByRecursion}
 use Rattle.std.proofs.lemmas.List.{length-map, length-take, length-drop, get_or-take, get_or-drop}
 use Rattle.std.proofs.ByRecursion.{All-map, All-from_get_or}
@@ -12,7 +13,7 @@ use Rattle.sources.specs.declared.form.Entry.{Entry}
 use Rattle.sources.specs.declared.form.Heading.{Heading}
 use Rattle.refusals.specs.declared.Refusal.{Refusal}
 use Rattle.refusals.specs.declared.Refusal.TheVariants.{JobOutOfOrder, WorthOutside}
-use Rattle.sources.specs.Sheets.{within_limits, blank, starts_good, last_of, has_start, no_entry, job_at, worth_at, in_order, refusal_at, or_else, first_refusal, listed, entry_refusal, pair_of, sheet_row, sheet_rows, sheet_of}
+use Rattle.sources.specs.Sheets.{within_limits, blank, starts_good, last_of, has_start, no_entry, job_at, worth_at, in_order, refusal_at, first_refusal, listed, entry_refusal, pair_of, sheet_row, sheet_rows, sheet_of}
 use Rattle.sources.specs.Laws.Indexed.{all_made}
 use Rattle.sources.specs.Laws.Starts.{Started, started, mono}
 
@@ -23,15 +24,15 @@ rising_from low (e ∷ es) first next =
     (first (omega arith), rising_from (e.job + 1) es (λ l. omega (arith, next 0 (omega arith))) (λ k l. next (suc k) (omega arith)))
 
 -- where there is no fault, there is none at any place
-or_else_none : (o p : Option Refusal) → is_some (or_else o p) ≡ false → (is_some o ≡ false) × (is_some p ≡ false)
-or_else_none None p e = (refl, e)
-or_else_none (Some r) p e = (e, absurd (true≢false e))
+neither : (o p : Option Refusal) → is_some (option_or o p) ≡ false → (is_some o ≡ false) × (is_some p ≡ false)
+neither None p e = (refl, e)
+neither (Some r) p e = (e, absurd (true≢false e))
 
 no_refusal : (f : ℕ → Option Refusal) (k n : ℕ) → is_some (first_refusal f k n) ≡ false → (j : ℕ) → j < n → is_some (f (k + j)) ≡ false
 no_refusal f k zero e j l = absurd (omega arith)
-no_refusal f k (suc n) e zero l = rw add-zero (or_else_none (f k) (first_refusal f (k + 1) n) e).0
+no_refusal f k (suc n) e zero l = rw add-zero (neither (f k) (first_refusal f (k + 1) n) e).0
 no_refusal f k (suc n) e (suc j) l =
-    let p = no_refusal f (k + 1) n (or_else_none (f k) (first_refusal f (k + 1) n) e).1 j (omega arith) in
+    let p = no_refusal f (k + 1) n (neither (f k) (first_refusal f (k + 1) n) e).1 j (omega arith) in
     let q : (k + 1) + j ≡ k + suc j = omega arith in
     rw q at p
 
