@@ -1,5 +1,6 @@
 -- What every accepted start, summons, look and settle keeps, every list of calls keeps. So the laws hold of every tally that calls lead to.
 use Rattle.std.proofs.Common.{◌≡◌, ℕ, List, [], ◌∷◌, Some, None, Ok, Err, Option, Result, refl, subst}
+use Rattle.std.specs.Option.{option_map}
 use Rattle.std.proofs.lemmas.Bool.{cond_both}
 use Rattle.refusals.specs.declared.Refusal.{Refusal}
 use Rattle.sources.specs.Meaning.{Meaning, Sound}
@@ -8,7 +9,7 @@ use Rattle.auction.specs.declared.standing.Act.TheVariants.{Summon as Summons, L
 use Rattle.auction.specs.declared.call.Call.{Call}
 use Rattle.auction.specs.declared.call.Call.TheVariants.{Start, Summon, Look, Settle, Run, PriceOf, HolderOf, StandingOf, TotalWorth, AllCounts}
 use Rattle.auction.specs.Tally.{Tally}
-use Rattle.auction.specs.Rules.{between, start_answer, start_tally, start_tally_by, opened, once, called, settled}
+use Rattle.auction.specs.Rules.{between, start_answer, start_tally, start_tally_by, opened, called, settled}
 use Rattle.auction.specs.Runs.{beginning, ran}
 use Rattle.auction.specs.Calls.{tally_by, tally_from, tally_after}
 use Rattle.auction.proofs.Invariant.{Invariant}
@@ -21,9 +22,9 @@ Holds P None = Unit {0}
 Holds P (Some t) = P t
 
 module _ (m : Meaning) (P : Tally → Type 0) where
-  once_holds : (f : Tally → Tally) → ((t : Tally) → P t → P (f t)) → (o : Option Tally) → Holds P o → Holds P (once f o)
-  once_holds f k None h = tt
-  once_holds f k (Some t) h = k t h
+  map_holds : (f : Tally → Tally) → ((t : Tally) → P t → P (f t)) → (o : Option Tally) → Holds P o → Holds P (option_map f o)
+  map_holds f k None h = tt
+  map_holds f k (Some t) h = k t h
 
   start_holds : (step lanes : ℕ) → (start_answer step lanes m ≡ Ok tt → P (opened m.carriers m.jobs step lanes)) → (o : Option Tally) → Holds P o → Holds P (start_tally step lanes m o)
   start_holds step lanes s o h = go (start_answer step lanes m) refl
@@ -44,10 +45,10 @@ module _ (m : Meaning) (P : Tally → Type 0) (calls : (t : Tally) (i : ℕ) (ac
   pub call_holds : (o : Option Tally) (c : Call) → Starts c → Holds P o → Holds P (tally_by m o c)
   unfolding tally_by
   call_holds o (Start step lanes) s h = start_holds m P step lanes (s step lanes refl) o h
-  call_holds o (Summon i) s h = once_holds m P (called m i Summons) (λ t. calls t i Summons) o h
-  call_holds o (Look i) s h = once_holds m P (called m i Looks) (λ t. calls t i Looks) o h
-  call_holds o (Settle i) s h = once_holds m P (settled m i) (λ t. settles t i) o h
-  call_holds o (Run depth budget) s h = once_holds m P (ran m depth budget) (run_holds depth budget) o h
+  call_holds o (Summon i) s h = map_holds m P (called m i Summons) (λ t. calls t i Summons) o h
+  call_holds o (Look i) s h = map_holds m P (called m i Looks) (λ t. calls t i Looks) o h
+  call_holds o (Settle i) s h = map_holds m P (settled m i) (λ t. settles t i) o h
+  call_holds o (Run depth budget) s h = map_holds m P (ran m depth budget) (run_holds depth budget) o h
   call_holds o (PriceOf j) s h = h
   call_holds o (HolderOf j) s h = h
   call_holds o (StandingOf i) s h = h

@@ -1,29 +1,30 @@
 -- After a list of calls a hall is started exactly if it was before, or a start was accepted.
 use Rattle.std.proofs.Common.{◌≡◌, false, ◌||◌, List, [], ◌∷◌, is_some, is_ok, Some, None, Ok, Err, Option, Result, refl, sym, ap, ◌∙◌}
+use Rattle.std.specs.Option.{option_map}
 use Rattle.std.proofs.Math.Bool.{or-false, or-true, or_assoc}
 use Rattle.sources.specs.Meaning.{Meaning}
 use Rattle.refusals.specs.declared.Refusal.{Refusal}
 use Rattle.auction.specs.declared.call.Call.{Call}
 use Rattle.auction.specs.declared.call.Call.TheVariants.{Start, Summon, Look, Settle, Run, PriceOf, HolderOf, StandingOf, TotalWorth, AllCounts}
 use Rattle.auction.specs.Tally.{Tally}
-use Rattle.auction.specs.Rules.{start_answer, start_tally_by, opened, once}
+use Rattle.auction.specs.Rules.{start_answer, start_tally_by, opened}
 use Rattle.auction.specs.Calls.{tally_by, tally_from, is_start, has_start}
 
 start_some : (r : Result (Unit {0}) Refusal) (new : Tally) (o : Option Tally) → is_some (start_tally_by r new o) ≡ (is_some o || is_ok r)
 start_some (Ok x) new o = sym (or-true (is_some o))
 start_some (Err e) new o = sym (or-false (is_some o))
 
-once_some : (f : Tally → Tally) (o : Option Tally) → is_some (once f o) ≡ (is_some o || false)
-once_some f None = refl
-once_some f (Some t) = refl
+map_some : (f : Tally → Tally) (o : Option Tally) → is_some (option_map f o) ≡ (is_some o || false)
+map_some f None = refl
+map_some f (Some t) = refl
 
 call_some : (m : Meaning) (o : Option Tally) (c : Call) → is_some (tally_by m o c) ≡ (is_some o || is_start m c)
 unfolding tally_by
 call_some m o (Start step lanes) = start_some (start_answer step lanes m) (opened m.carriers m.jobs step lanes) o
-call_some m o (Summon i) = once_some _ o
-call_some m o (Look i) = once_some _ o
-call_some m o (Settle i) = once_some _ o
-call_some m o (Run depth budget) = once_some _ o
+call_some m o (Summon i) = map_some _ o
+call_some m o (Look i) = map_some _ o
+call_some m o (Settle i) = map_some _ o
+call_some m o (Run depth budget) = map_some _ o
 call_some m o (PriceOf j) = sym (or-false (is_some o))
 call_some m o (HolderOf j) = sym (or-false (is_some o))
 call_some m o (StandingOf i) = sym (or-false (is_some o))

@@ -1,5 +1,6 @@
 -- Every call: what it answers, and the tally after it; and lists of calls.
-use Rattle.std.specs.Prelude.{ℕ, Bool, false, cond, ◌||◌, List, [], ◌∷◌, is_ok, Some, None, Ok, Err, fold, Option, Result, nat_lt}
+use Rattle.std.specs.Prelude.{ℕ, Bool, false, cond, List, [], ◌∷◌, is_ok, Some, None, Ok, Err, fold, Option, Result, nat_lt}
+use Rattle.std.specs.List.{list_any}
 use Rattle.std.specs.Result.{result_map_both}
 use Rattle.sources.specs.Meaning.{Meaning}
 use Rattle.refusals.specs.declared.Refusal.{Refusal}
@@ -97,5 +98,4 @@ is_start m TotalWorth = false
 is_start m AllCounts = false
 
 abbrev pub has_start : Meaning → List Call → Bool
-has_start m [] = false
-has_start m (c ∷ calls) = is_start m c || has_start m calls
+has_start m calls = list_any (is_start m) calls

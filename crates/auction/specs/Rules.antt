@@ -1,6 +1,8 @@
 -- The rules: what each call answers, and the tally after it. No tally is that of a hall that was never started.
 -- Refusals stand in the order in which they are checked, and a refused call leaves the tally as it was.
 use Rattle.std.specs.Prelude.{ℕ, ◌+◌, ◌^◌, Bool, cond, ◌&&◌, List, length, replicate, Some, None, Ok, Err, Option, Result, nat_le, nat_lt, slice_set}
+use Rattle.std.specs.Option.{option_map}
+use Rattle.std.specs.Result.{result_map_both}
 use Rattle.sources.specs.Meaning.{Meaning, row_of}
 use Rattle.sources.specs.Sheets.{within_limits}
 use Rattle.sources.specs.Tables.{heading_of}
@@ -82,17 +84,12 @@ bid_by m i act (Some t) = bid_at m i act t
 
 -- Summon and look tell only success.
 abbrev pub success_of : Result Bid Refusal → Result (Unit {0}) Refusal
-success_of (Ok b) = Ok tt
-success_of (Err e) = Err e
+success_of r = result_map_both (λ _. tt) (λ e. e) r
 
 -- A refused call leaves the tally as it was.
 abbrev pub taken : Result Bid Refusal → (Bid → Tally → Tally) → Tally → Tally
 taken (Ok b) f t = f b t
 taken (Err e) f t = t
-
-abbrev pub once : (Tally → Tally) → Option Tally → Option Tally
-once f None = None
-once f (Some t) = Some (f t)
 
 -- The carrier's standing becomes s, and the counts become n; all else stays.
 abbrev pub stands : ℕ → Standing → Counts → Tally → Tally
@@ -122,13 +119,13 @@ abbrev pub summon_answer : ℕ → Meaning → Option Tally → Result (Unit {0}
 summon_answer i m o = success_of (bid_by m i Summon o)
 
 abbrev pub summon_tally : ℕ → Meaning → Option Tally → Option Tally
-summon_tally i m o = once (called m i Summon) o
+summon_tally i m o = option_map (called m i Summon) o
 
 abbrev pub look_answer : ℕ → Meaning → Option Tally → Result (Unit {0}) Refusal
 look_answer i m o = success_of (bid_by m i Look o)
 
 abbrev pub look_tally : ℕ → Meaning → Option Tally → Option Tally
-look_tally i m o = once (called m i Look) o
+look_tally i m o = option_map (called m i Look) o
 
 -- ---- settle
 
@@ -163,8 +160,7 @@ abbrev pub verdict_in : Tally → Bid → Verdict
 verdict_in t b = judged t.step t.prices t.holders b
 
 abbrev pub verdict_from : Tally → Result Bid Refusal → Result Verdict Refusal
-verdict_from t (Ok b) = Ok (verdict_in t b)
-verdict_from t (Err e) = Err e
+verdict_from t r = result_map_both (verdict_in t) (λ e. e) r
 
 abbrev pub settle_answer : ℕ → Meaning → Option Tally → Result Verdict Refusal
 settle_answer i m None = Err NeverStarted
@@ -177,4 +173,4 @@ abbrev pub settled : Meaning → ℕ → Tally → Tally
 settled m i t = taken (bid_at m i Settle t) (ended i) t
 
 abbrev pub settle_tally : ℕ → Meaning → Option Tally → Option Tally
-settle_tally i m o = once (settled m i) o
+settle_tally i m o = option_map (settled m i) o

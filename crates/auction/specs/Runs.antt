@@ -1,6 +1,6 @@
 -- Run: a line of carriers that wait, and a flight of those that bid, each with the looks that it has left.
 use Rattle.std.specs.Prelude.{◌≡◌, ℕ, zero, suc, ◌+◌, ◌-◌, ◌/◌, ◌≤◌, Bool, true, false, cond, List, [], ◌∷◌, ◌++◌, length, Some, None, Ok, Err, count_by, Option, Result, ◌==◌, nat_lt}
-use Rattle.std.specs.Option.{option_to_list}
+use Rattle.std.specs.Option.{option_map, option_to_list}
 use Rattle.sources.specs.Meaning.{Meaning, row_of}
 use Rattle.refusals.specs.declared.Refusal.{Refusal}
 use Rattle.refusals.specs.declared.Refusal.TheVariants.{NeverStarted, DepthOutside}
@@ -15,7 +15,7 @@ use Rattle.auction.specs.declared.standing.Ending.{Ending}
 use Rattle.auction.specs.declared.standing.Ending.TheVariants.{Done, Spent}
 use Rattle.auction.specs.declared.standing.Report.{Report}
 use Rattle.auction.specs.Tally.{Tally, is_waiting, is_bidding}
-use Rattle.auction.specs.Rules.{between, called, settle_answer, settled, once}
+use Rattle.auction.specs.Rules.{between, called, settle_answer, settled}
 
 -- What a run works on: the line, the flight, the tally, and the steps made so far.
 pub record RunState : Type 0 where
@@ -125,4 +125,4 @@ unfoldable pub ran : Meaning → ℕ → ℕ → Tally → Tally
 ran m depth budget t = cond (between 1 128 depth) (many_steps m depth budget (beginning m t)).tally t
 
 abbrev pub run_tally : ℕ → ℕ → Meaning → Option Tally → Option Tally
-run_tally depth budget m o = once (ran m depth budget) o
+run_tally depth budget m o = option_map (ran m depth budget) o
