@@ -1,5 +1,6 @@
 -- How the hall's books hold a tally.
-use Rattle.std.specs.Prelude.{◌≡◌, Some, None, Option}
+use Rattle.std.specs.Prelude.{◌≡◌, Some, Option}
+use Rattle.std.specs.Option.{option_map}
 use Rattle.sources.specs.Meaning.{Meaning}
 use Rattle.sources.specs.Tables.{heading_of}
 use Rattle.auction.specs.Tally.{Tally}
@@ -15,8 +16,7 @@ tally_in b = tally_held b.noted b.step b.lanes b.lots b.standings b.counts
 
 -- None where the hall was never started.
 abbrev pub tally_of : Option Books → Option Tally
-tally_of None = None
-tally_of (Some b) = Some (tally_in b)
+tally_of books = option_map tally_in books
 
 -- There was a tally before, there is one after, and the relation holds of the two.
 pub record Between (relation : Tally → Tally → Type 0) (old new : Option Tally) : Type 0 where

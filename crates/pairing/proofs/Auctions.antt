@@ -5,6 +5,7 @@ use Rattle.std.proofs.lemmas.List.{ext_get_or, get_or_past, get_or-set_other, ge
 use Rattle.std.proofs.lemmas.Bool.{and_parts, cases_lt, cond_both, cond-true, leb-true, lt-ltb}
 use Rattle.std.proofs.lemmas.Nat.{mul-le}
 use Rattle.std.proofs.Math.Nat.{min-eq_left, min-eq_right, mul_comm}
+use Rattle.std.specs.Option.{option_map}
 use Rattle.std.specs.List.{AllByRecursion}
 use Rattle.std.specs.Prelude.{OnOk}
 use Rattle.refusals.specs.declared.Fault.{Fault}
@@ -25,7 +26,7 @@ use Rattle.auction.specs.declared.standing.Verdict.{Verdict}
 use Rattle.auction.specs.declared.standing.Verdict.TheVariants.{Out as GoesOut, Stale, Awarded}
 use Rattle.auction.specs.Tally.{Tally, standing_at}
 use Rattle.auction.specs.Bids.{best_worth}
-use Rattle.auction.specs.Rules.{between, bid_at, bids, carried_out, ended, once, opened, start_answer, start_tally_by, taken, verdict_in}
+use Rattle.auction.specs.Rules.{between, bid_at, bids, carried_out, ended, opened, start_answer, start_tally_by, taken, verdict_in}
 use Rattle.auction.specs.declared.standing.Act.TheVariants.{Settle}
 use Rattle.auction.specs.Runs.{beginning, ran}
 use Rattle.auction.specs.Calls.{accepted, answer_to, counts_answer, standing_answer, tally_after, tally_by, tally_from, told}
@@ -39,6 +40,7 @@ use Rattle.pairing.specs.Held.{HeldUnderTimes}
 use Rattle.pairing.specs.Listing.{listing}
 use Rattle.sheetfile.specs.Reading.{loaded_within}
 use Rattle.sheetfile.proofs.Filling.{within_file}
+use Rattle.sheetfile.proofs.Steps.{ok_same}
 use Rattle.pairing.specs.Pairs.{Ends, ListsFile, ListsPairs, PairsWell, auctioned, listed, listed_after, listing_after, timed, two_calls}
 
 -- ---- the step stays
@@ -73,17 +75,17 @@ start_is m = (_, refl)
 
 -- The start's answer, whatever it depends on, and what follows from it.
 module _ (f : Tally → Tally) (new : Tally) where
-  refused_none : (b : Bool) (r : Result (Unit {0}) Refusal) (e : Refusal) → r ≡ start_by b → told accepted r ≡ Err e → (e ≡ CountsOutside) × (once f (start_tally_by r new None) ≡ None)
+  refused_none : (b : Bool) (r : Result (Unit {0}) Refusal) (e : Refusal) → r ≡ start_by b → told accepted r ≡ Err e → (e ≡ CountsOutside) × (option_map f (start_tally_by r new None) ≡ None)
   refused_none true (Ok x) e by is = absurd (let z : ◌≡◌ {A = ℕ} 0 1 = cc in omega arith)
   refused_none true (Err d) e by is = absurd (let z : ◌≡◌ {A = ℕ} 0 1 = cc in omega arith)
   refused_none false (Ok x) e by is = absurd (let z : ◌≡◌ {A = ℕ} 0 1 = cc in omega arith)
   refused_none false (Err d) e by is = (cc, refl)
 
-  accepted_some : (r : Result (Unit {0}) Refusal) (a : Answer) → told accepted r ≡ Ok a → (t : Tally) × (once f (start_tally_by r new None) ≡ Some t)
+  accepted_some : (r : Result (Unit {0}) Refusal) (a : Answer) → told accepted r ≡ Ok a → (t : Tally) × (option_map f (start_tally_by r new None) ≡ Some t)
   accepted_some (Ok x) a is = (f new, refl)
   accepted_some (Err e) a is = absurd (let z : ◌≡◌ {A = ℕ} 0 1 = cc in omega arith)
 
-  some_step : (r : Result (Unit {0}) Refusal) (t : Tally) → (f new).step ≡ 1 → once f (start_tally_by r new None) ≡ Some t → t.step ≡ 1
+  some_step : (r : Result (Unit {0}) Refusal) (t : Tally) → (f new).step ≡ 1 → option_map f (start_tally_by r new None) ≡ Some t → t.step ≡ 1
   some_step (Ok x) t h e = let same : f new ≡ t = cc in sym (ap (λ (u : Tally). u.step) same) ∙ h
   some_step (Err d) t h e = absurd (let z : ◌≡◌ {A = ℕ} 0 1 = cc in omega arith)
 
@@ -94,12 +96,12 @@ begun m = opened m.carriers m.jobs 1 8
 abbrev running : Meaning → Tally → Tally
 running m = ran (timed m) 8 1000000
 
-auction_is : (m : Meaning) → auctioned m ≡ once (running m) (start_tally_by (start_answer 1 8 (timed m)) (begun m) None)
+auction_is : (m : Meaning) → auctioned m ≡ option_map (running m) (start_tally_by (start_answer 1 8 (timed m)) (begun m) None)
 unfolding auctioned tally_from tally_by
 auction_is m = refl
 
 -- a start that was not refused found the ceiling within the limits
-not_refused : (f : Tally → Tally) (new t : Tally) (b : Bool) (r : Result (Unit {0}) Refusal) → r ≡ start_by b → once f (start_tally_by r new None) ≡ Some t → b ≡ true
+not_refused : (f : Tally → Tally) (new t : Tally) (b : Bool) (r : Result (Unit {0}) Refusal) → r ≡ start_by b → option_map f (start_tally_by r new None) ≡ Some t → b ≡ true
 not_refused f new t true r by is = refl
 not_refused f new t false (Ok x) by is = absurd (let z : ◌≡◌ {A = ℕ} 0 1 = cc in omega arith)
 not_refused f new t false (Err e) by is = absurd (let z : ◌≡◌ {A = ℕ} 0 1 = cc in omega arith)
@@ -137,9 +139,6 @@ times_some g w some =
     (cases_lt 0 w)
 
 -- ---- what the two calls lead to
-
-pub ok_same : {A : Type 0} (x y : A) → ◌≡◌ {A = Result A Refusal} (Ok x) (Ok y) → x ≡ y
-ok_same x y e = cc
 
 auction_laws : (m : Meaning) → Sound m → (t : Tally) → auctioned m ≡ Some t → AuctionLaws (timed m) t
 unfolding auctioned

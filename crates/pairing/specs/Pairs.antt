@@ -1,6 +1,7 @@
 -- What comes of pairing the carriers and jobs of a sheet file.
 use Rattle.std.specs.Prelude.{◌≡◌, ℕ, ◌+◌, ◌≤◌, List, [], ◌∷◌, length, ℤ, pos, ◌-ℤ◌, Some, None, Ok, Err, Option, Result}
 use Rattle.std.specs.List.{AllByRecursion}
+use Rattle.std.specs.Result.{IfOk, result_map_both}
 use Rattle.refusals.specs.declared.Fault.{Fault}
 use Rattle.refusals.specs.declared.Refusal.{Refusal}
 use Rattle.refusals.specs.declared.Refusal.TheVariants.{CountsOutside, TooShort}
@@ -55,8 +56,7 @@ listed_within bytes room = fitted room (listed bytes)
 
 -- How long the text is.
 abbrev pub sized : Result (List ℕ) Refusal → Result ℕ Refusal
-sized (Err e) = Err e
-sized (Ok text) = Ok (length text)
+sized r = result_map_both length (λ e. e) r
 
 -- The text at the beginning of out, and what was there behind it; all of out as it was after a refusal.
 abbrev pub put_into : List ℕ → Result (List ℕ) Refusal → List ℕ
@@ -69,17 +69,12 @@ signed_size (Err e) = pos 0 -ℤ pos (number_of e)
 
 -- A text has at most so many bytes, if there is one.
 abbrev pub AtMost : ℕ → Result (List ℕ) Refusal → Type 0
-AtMost n (Ok text) = length text ≤ n
-AtMost n (Err e) = Unit {0}
+AtMost n r = IfOk r (λ text. length text ≤ n)
 
 -- What is printed: the listing, or the refusal.
 abbrev pub printed : Result (List ℕ) Refusal → List ℕ
 printed (Ok text) = text
 printed (Err e) = refused_line e
-
-abbrev pub refusal_in : Result (List ℕ) Refusal → Option Refusal
-refusal_in (Ok text) = None
-refusal_in (Err e) = Some e
 
 -- What standings and counts an auction ended with, or its refusal.
 abbrev pub Ends : Option Tally → Result Counts Refusal → List Standing → Type 0

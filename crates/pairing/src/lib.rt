@@ -2,10 +2,11 @@
 #![tactic(auto)]
 
 ghost use Rattle.std.specs.Prelude.{◌≡◌, ℕ, ◌*◌, ◌≤◌, ◌⊎◌, List, length, Ok};
+ghost use Rattle.std.specs.Result.{result_err};
 ghost use Rattle.numbers.specs.Writing.{over};
 ghost use Rattle.outputs.specs.Puts.{Puts};
 ghost use Rattle.pairing.specs.Listing.{refused_line};
-ghost use Rattle.pairing.specs.Pairs.{AtMost, ListsFile, auctioned, fitted, listed, listed_within, listing_after, printed, put_into, refusal_in, sized};
+ghost use Rattle.pairing.specs.Pairs.{AtMost, ListsFile, auctioned, fitted, listed, listed_within, listing_after, printed, put_into, sized};
 
 use crate::auctioning::hold_auction;
 use crate::listing::Ended;
@@ -95,7 +96,7 @@ pub struct Printed {
 pub fn print_pairs(sheet: &[u8], text: &mut [u8; MOST_TEXT]) -> Printed
     ensures len { result.len ≡ length (printed (listed sheet.now)) }
     ensures text { text.new ≡ over text.old 0 (printed (listed sheet.now)) }
-    ensures refusal { result.refusal ≡ refusal_in (listed sheet.now) }
+    ensures refusal { result.refusal ≡ result_err (listed sheet.now) }
     ensures paired { (text : List ℕ) → listed sheet.now ≡ Ok text → ListsFile sheet.now text }
 {
     match list_pairs(sheet, text) {

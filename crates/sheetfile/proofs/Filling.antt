@@ -60,13 +60,6 @@ within_file bs typed m is =
     (λ short. (file_read bs typed 129 4096 m (sym (within_loaded bs 129 4096 short refl refl) ∙ is)).0)
     (cases_lt 32768 (length bs))
 
--- the file of a heading that was told, where the sheet over the tables means what was loaded
-pub file_there : (bs : List ℕ) → ((i : ℕ) → Fits w8 (get_or bs i 0)) → (r : Result Heading Fault) (sheet : Heading → Result Meaning Fault) → r ≡ heading_answer (loaded_within bs) → and_then r sheet ≡ loaded_within bs →
-    IfOk r (λ h. (m : Meaning) × SheetFile bs m × (sheet h ≡ Ok m))
-file_there bs typed (Err e) sheet told filled = tt
-file_there bs typed (Ok h) sheet told filled =
-    let w = heading_ok (loaded_within bs) h told in (w.0, within_file bs typed w.0 w.1, filled ∙ w.1)
-
 -- a sheet file within the limits is loaded
 module _ (bs : List ℕ) (m : Meaning) (is : SheetFile bs m) (short : length bs ≤ 32768) (few : entries_in m.rows ≤ 4096) where
   pub loaded_there : loaded_within bs ≡ Ok m

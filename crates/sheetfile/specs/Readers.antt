@@ -1,12 +1,12 @@
 -- What a read makes of a reader.
 use Rattle.std.specs.Prelude.{◌≡◌, ℕ, Ok, Err, Result}
+use Rattle.std.specs.Result.{result_map_both}
 use Rattle.refusals.specs.declared.Fault.{Fault}
 use Rattle.sheetfile.specs.declared.parts.Reader.{Reader}
 
 -- What is read, without the place behind it.
 abbrev pub value_of : {A : Type 0} → Result (A × ℕ) Fault → Result A Fault
-value_of (Err e) = Err e
-value_of (Ok (x, at)) = Ok x
+value_of read = result_map_both (λ x. x.0) (λ e. e) read
 
 -- The reader stands behind what is read. Where that is refused, it stays where it was.
 abbrev pub reader_after : {A : Type 0} → Reader → Result (A × ℕ) Fault → Reader

@@ -1,5 +1,6 @@
 -- What comes of steps that may be refused.
 use Rattle.std.specs.Prelude.{ℕ, cond, List, ◌++◌, Ok, Err, Result, nat_le}
+use Rattle.std.specs.Result.{result_map_both}
 use Rattle.refusals.specs.declared.Fault.{Fault}
 
 -- The next step is made with what the first one gave; a refusal of the first ends both.
@@ -9,8 +10,7 @@ and_then (Ok x) f = f x
 
 -- The answer of a step that gives nothing.
 abbrev pub without_value : {A E : Type 0} → Result A E → Result (Unit {0}) E
-without_value (Err e) = Err e
-without_value (Ok a) = Ok tt
+without_value r = result_map_both (λ _. tt) (λ e. e) r
 
 -- What a step makes of x: it stays as it was if the step is refused.
 abbrev pub updated : {A X E : Type 0} → Result A E → X → (A → X) → X
@@ -23,5 +23,4 @@ room_for e need room x = cond (nat_le need room) (Ok x) (Err e)
 
 -- The elements xs before those that are read next.
 abbrev pub prefixed : {A : Type 0} → List A → Result (List A × ℕ) Fault → Result (List A × ℕ) Fault
-prefixed xs (Err e) = Err e
-prefixed xs (Ok (ys, at)) = Ok (xs ++ ys, at)
+prefixed xs r = result_map_both (λ x. (xs ++ x.0, x.1)) (λ e. e) r

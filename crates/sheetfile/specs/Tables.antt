@@ -15,8 +15,7 @@ use Rattle.sheetfile.specs.Steps.{updated}
 
 -- The heading alone of what is loaded.
 abbrev pub heading_answer : Result Meaning Fault → Result Heading Fault
-heading_answer (Err e) = Err e
-heading_answer (Ok m) = Ok (heading_of m)
+heading_answer r = result_map_both heading_of (λ e. e) r
 
 -- The table of starts after a load: it begins with the starts of the rows, and is as it was behind them.
 abbrev pub starts_after : List ℕ → List ℕ → ℕ → List ℕ
@@ -36,8 +35,7 @@ sheet_held h starts entries = result_unwrap_or (sheet_in h starts entries) empty
 
 -- How many entries a row has, in the stead of the row.
 abbrev pub row_count : Result (Row × ℕ) Fault → Result (ℕ × ℕ) Fault
-row_count (Err e) = Err e
-row_count (Ok (row, at)) = Ok (length row, at)
+row_count r = result_map_both (λ x. (length x.0, x.1)) (λ e. e) r
 
 -- The table begins with the entries of the row, as far as it reaches.
 abbrev pub BeginsWith : List Entry → Row → Type 0

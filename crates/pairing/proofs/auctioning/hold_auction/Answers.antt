@@ -4,9 +4,10 @@ use Rattle.sources.specs.Layers.{times_of}
 use Rattle.auction.specs.Calls.{counts_answer, standing_answer}
 use Rattle.auction.specs.declared.standing.Standing.TheVariants.{Out}
 use Rattle.auction.specs.Tally.{standing_at}
+use Rattle.sheetfile.proofs.Steps.{ok_same}
 use Rattle.hall.specs.InBooks.{tally_of}
 use Rattle.pairing.specs.Pairs.{Ends, auctioned}
-use Rattle.pairing.proofs.Auctions.{as_new, ends_refused, ends_timed, ends_well, noted_more, ok_same, standing_told}
+use Rattle.pairing.proofs.Auctions.{as_new, ends_refused, ends_timed, ends_well, noted_more, standing_told}
 use Rattle.pairing.proofs.auctioning.hold_auction.Goals as goal
 use Rattle.pairing.proofs.auctioning.hold_auction.Goals.{in-Ok, in_default}
 

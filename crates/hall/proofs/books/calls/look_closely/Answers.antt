@@ -1,5 +1,6 @@
 -- An entry that is there has a known job and a worth under the ceiling.
 use Rattle.std.proofs.Common.{◌≡◌, ℕ, ◌+◌, ◌-◌, ◌<◌, ◌≤◌, length, get_or, take, drop, ap, ◌∙◌, subst, arith, rules, refl, fold, inl, inr, ⊎_elim}
+use Rattle.std.proofs.ByRecursion.{All-get_or}
 use Rattle.std.proofs.lemmas.List.{get_or-take}
 use Rattle.sources.specs.Meaning.{row_of}
 use Rattle.std.specs.Option.{unwrap_or}
@@ -7,7 +8,7 @@ use Rattle.sources.proofs.Reading.{entry_or, row_known, row_within, row_rising, 
 use Rattle.auction.specs.Bids.{fresh, weighed, weighed_at}
 use Rattle.hall.specs.Kept.{unsold, prices_of}
 use Rattle.hall.specs.Seeing.{bid_in}
-use Rattle.hall.proofs.Entries.{weighed_cut, price_in, nth_of_all}
+use Rattle.hall.proofs.Entries.{weighed_cut, price_in}
 use Rattle.hall.proofs.Seeing.{look_merged, seen_more}
 use Rattle.hall.proofs.books.calls.look_closely.Goals as goal
 
@@ -15,7 +16,7 @@ pub offset_bounds-lots-job : goal.offset_bounds-lots-job
 offset_bounds-lots-job g c =
     let m = g.S.Source.meaning c.args.source.now in
     let e = (c.unwrap_or-job.ensures ∙ ap (λ o. unwrap_or o (0, 0)) c.entry.ensures ∙ entry_or (g.S.Source.meaning c.args.source.now) c.args.carrier c.loop-place.place) in
-    let k : (get_or (row_of m c.args.carrier) c.loop-place.place (0, 0)).0 < m.jobs = nth_of_all (λ e. e.0 < m.jobs) (row_of m c.args.carrier) c.loop-place.place (0, 0) (row_known m (g.S.Source.sound c.args.source.now) c.args.carrier) (omega arith) in
+    let k : (get_or (row_of m c.args.carrier) c.loop-place.place (0, 0)).0 < m.jobs = All-get_or (λ e. e.0 < m.jobs) (row_of m c.args.carrier) c.loop-place.place (0, 0) (omega arith) (row_known m (g.S.Source.sound c.args.source.now) c.args.carrier) in
     let j = ap (λ x. x.0) e in
     let n : c.unwrap_or-job.result.0 < 256 = omega (arith, k, j, c.requires.few_jobs) in
     search rules
@@ -24,7 +25,7 @@ pub bounds-lots-job : goal.bounds-lots-job
 bounds-lots-job g c =
     let m = g.S.Source.meaning c.args.source.now in
     let e = (c.unwrap_or-job.ensures ∙ ap (λ o. unwrap_or o (0, 0)) c.entry.ensures ∙ entry_or (g.S.Source.meaning c.args.source.now) c.args.carrier c.loop-place.place) in
-    let k = nth_of_all (λ e. e.0 < m.jobs) (row_of m c.args.carrier) c.loop-place.place (0, 0) (row_known m (g.S.Source.sound c.args.source.now) c.args.carrier) (omega arith) in
+    let k = All-get_or (λ e. e.0 < m.jobs) (row_of m c.args.carrier) c.loop-place.place (0, 0) (omega arith) (row_known m (g.S.Source.sound c.args.source.now) c.args.carrier) in
     let j = ap (λ x. x.0) e in
     omega (arith, k, j, c.requires.few_jobs)
 
@@ -32,14 +33,14 @@ pub and-seen-requires-clause-low_worth : goal.and-seen-requires-clause-low_worth
 and-seen-requires-clause-low_worth g c =
     let m = g.S.Source.meaning c.args.source.now in
     let sound = g.S.Source.sound c.args.source.now in
-    let k = nth_of_all (λ e. e.1 ≤ m.ceiling) (row_of m c.args.carrier) c.loop-place.place (0, 0) (row_within m sound c.args.carrier) (omega arith) in
+    let k = All-get_or (λ e. e.1 ≤ m.ceiling) (row_of m c.args.carrier) c.loop-place.place (0, 0) (omega arith) (row_within m sound c.args.carrier) in
     omega (arith, k, ap (λ x. x.1) (c.unwrap_or-job.ensures ∙ ap (λ o. unwrap_or o (0, 0)) c.entry.ensures ∙ entry_or (g.S.Source.meaning c.args.source.now) c.args.carrier c.loop-place.place), sound.small)
 
 pub and-seen-requires-clause-low_price : goal.and-seen-requires-clause-low_price
 and-seen-requires-clause-low_price g c =
     let m = g.S.Source.meaning c.args.source.now in
     let sound = g.S.Source.sound c.args.source.now in
-    let k = nth_of_all (λ e. e.0 < m.jobs) (row_of m c.args.carrier) c.loop-place.place (0, 0) (row_known m sound c.args.carrier) (omega arith) in
+    let k = All-get_or (λ e. e.0 < m.jobs) (row_of m c.args.carrier) c.loop-place.place (0, 0) (omega arith) (row_known m sound c.args.carrier) in
     let job = c.unwrap_or-job.result.0 in
     let known : c.unwrap_or-job.result.0 < m.jobs = omega (arith, k, ap (λ x. x.0) (c.unwrap_or-job.ensures ∙ ap (λ o. unwrap_or o (0, 0)) c.entry.ensures ∙ entry_or (g.S.Source.meaning c.args.source.now) c.args.carrier c.loop-place.place)) in
     let price = price_in c.args.lots.now job unsold (omega (arith, known, c.requires.few_jobs)) in
@@ -62,7 +63,7 @@ loop-place-preserved g c =
     let s = c.loop-place.seen in
     let e = c.unwrap_or-job.result in
     let inside : c.loop-place.place < length (row_of m c.args.carrier) = omega arith in
-    let k = nth_of_all (λ e. e.0 < m.jobs) row place (0, 0) (row_known m sound c.args.carrier) inside in
+    let k = All-get_or (λ e. e.0 < m.jobs) row place (0, 0) inside (row_known m sound c.args.carrier) in
     let known : c.unwrap_or-job.result.0 < m.jobs = omega (arith, k, ap (λ x. x.0) (c.unwrap_or-job.ensures ∙ ap (λ o. unwrap_or o (0, 0)) c.entry.ensures ∙ entry_or (g.S.Source.meaning c.args.source.now) c.args.carrier c.loop-place.place)) in
     let before : ℕ = place - from in
     let next : (c.loop-place.place - c.args.bid.now.looked) + 1 ≡ c.loop-place.place + 1 - c.args.bid.now.looked = omega arith in
