@@ -3,7 +3,7 @@
 //! the load of a whole file. Prints what became of them.
 #![tactic(auto)]
 
-use draws::Draw;
+use grids::draws::Draw;
 use grids::groups::push_number;
 use refusals::{Fault, Refusal};
 use sheetfile::loader::Bare;

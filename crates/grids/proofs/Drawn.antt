@@ -2,7 +2,7 @@
 use Rattle.std.proofs.Common.{◌≡◌, ℕ, ◌+◌, ◌<◌, ltb, List, [], ◌∷◌, ◌++◌, length, get_or, take, set, ⊎_elim, add-one, sym, ap, ◌∙◌, subst, arith}
 use Rattle.std.proofs.lemmas.Bool.{cases_eq}
 use Rattle.std.proofs.lemmas.List.{get_or-set_other, get_or-set_same, take_all, take_more_set}
-use Rattle.draws.specs.Xorshift.{drawn, next}
+use Rattle.grids.specs.Xorshift.{drawn, next}
 use Rattle.grids.specs.declared.Grid.{Grid}
 use Rattle.grids.specs.Drawn.{grid_drawn, row_drawn, rows_drawn}
 

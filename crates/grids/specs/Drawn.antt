@@ -1,6 +1,6 @@
 -- The grid that is drawn from a state of a draw, and the state after it.
 use Rattle.std.specs.Prelude.{ℕ, zero, suc, ◌+◌, Bool, cond, ◌==◌, List, [], ◌∷◌, ◌++◌, nat_lt}
-use Rattle.draws.specs.Xorshift.{drawn, next}
+use Rattle.grids.specs.Xorshift.{drawn, next}
 use Rattle.grids.specs.declared.Grid.{Grid}
 
 -- A worth: one time in five it is left out, else it is one from 1 up to the ceiling.

@@ -1,2 +1,3 @@
+pub mod Xorshift
 pub mod Worths
 pub mod Drawn

@@ -1,6 +1,7 @@
 //! Small sheets for the trials: random ones, and the best pairing of each by trying all.
 #![tactic(auto)]
 
+pub mod draws;
 pub mod groups;
 
 ghost use Rattle.std.specs.Prelude.{◌≡◌, ℕ, ◌≤◌, ◌*◌, if◌then◌else◌, false, [], map, slice_index, slice_index_or};

@@ -5,7 +5,7 @@ mod file;
 mod told;
 mod trial;
 
-use draws::Draw;
+use grids::draws::Draw;
 use trial::Sums;
 
 const SHEETS: u32 = 3000;

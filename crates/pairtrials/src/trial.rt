@@ -2,8 +2,8 @@
 use crate::file::file_of;
 use crate::told::{Told, read_listing};
 use anyhow::{Context, ensure};
-use draws::Draw;
 use grids::Grid;
+use grids::draws::Draw;
 use pairing::list_pairs;
 use refusals::Refusal;
 use std::alloc::Global;

@@ -1,7 +1,7 @@
 //! What is drawn for a trial: a grid, layers and a list of calls; and the tables of the grid's sheet.
 use auction::call::{Answer, Call};
-use draws::Draw;
 use grids::Grid;
+use grids::draws::Draw;
 use refusals::Refusal;
 use sources::form::Entry;
 use std::alloc::{AllocError, Global};

@@ -19,7 +19,7 @@ mod verdicts;
 use anyhow::{Context, bail, ensure};
 use course::Course;
 use drawn::{CALLS, Trial, tables_of};
-use draws::Draw;
+use grids::draws::Draw;
 use laws::{Checks, LAWS};
 use sources::floor::Floor;
 use sources::form::Heading;

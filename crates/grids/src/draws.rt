@@ -1,8 +1,6 @@
 //! Numbers that look random, the same ones for each seed: Marsaglia's xorshift of 64 bits. For trials, not for secrets.
-#![tactic(auto)]
-
 ghost use Rattle.std.specs.Prelude.{◌≡◌, ◌<◌, max};
-ghost use Rattle.draws.specs.Xorshift.{drawn, next};
+ghost use Rattle.grids.specs.Xorshift.{drawn, next};
 
 /// Numbers that look random, the same in every run from the same seed.
 #[derive(Drop)]
