@@ -1,4 +1,4 @@
--- What a sheet means. (The file that declares the sheet cannot cite this one, since it names the sheet.)
+-- What a sheet means. The file that declares the sheet cites this one inside an `impl` alone, since this one names the sheet.
 use Rattle.sources.specs.declared.sheet.Sheet.{Sheet}
 use Rattle.sources.specs.Meaning.{Meaning}
 use Rattle.sources.specs.Sheets.{sheet_of}

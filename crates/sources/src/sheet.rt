@@ -1,15 +1,17 @@
-//! A source over two lent tables: where each row starts, and the entries of all rows.
-ghost use Rattle.std.specs.Prelude.{◌≡◌, true, false, ◌||◌, length, is_some};
+//! A source over two lent tables: where each row starts, and the entries of all rows. It is filled from a heading and these tables.
+ghost use Rattle.std.specs.Prelude.{◌≡◌, true, false, ◌||◌, length, is_some, is_ok, if◌then◌else◌};
 ghost use Rattle.std.specs.List.{slice_get};
 ghost use Rattle.std.specs.Option.{option_map};
 ghost use Rattle.sources.specs.Laws.SheetSound.{sheet_sound};
-ghost use Rattle.sources.specs.Sheets.{within_limits, blank, starts_good, entry_refusal, listed, sheet_rows, sheet_of};
+ghost use Rattle.sources.specs.Meaning.{empty_meaning};
+ghost use Rattle.sources.specs.Sheets.{within_limits, blank, starts_good, entry_refusal, fill_verdict, listed, sheet_rows, sheet_of};
+ghost use Rattle.sources.specs.Tables.{FillsExactly};
 
+use crate::checks::verdict;
 use crate::form::{Entry, Heading};
 use crate::source::Source;
 use crate::visitor::Visitor;
-
-pub mod filling;
+use refusals::Refusal;
 
 /// The row of carrier i begins at start i and ends before start i + 1. What filling checked holds of every sheet.
 /// Two lent tables and no vector of rows: no heap is used here.
@@ -23,7 +25,46 @@ pub struct Sheet<'a> {
     ghost faultless: { is_some (entry_refusal heading starts.now (listed heading starts.now entries.now)) ≡ false },
 }
 
-impl Sheet<'_> {
+impl<'a> Sheet<'a> {
+    ghost use Rattle.sources.specs.OfSheet.{sheet_meaning};
+
+    /// A sheet with no carriers, no jobs and ceiling 0.
+    pub fn new() -> Sheet<'a>
+        ensures { sheet_meaning result ≡ empty_meaning }
+    {
+        let heading = Heading {
+            carriers: 0,
+            jobs: 0,
+            ceiling: 0,
+        };
+        Sheet {
+            heading,
+            starts: &[0],
+            entries: &[],
+        }
+    }
+
+    /// Takes the heading and the tables if they make a sheet; else the sheet stays as it was.
+    pub fn fill(
+        &mut self,
+        heading: Heading,
+        starts: &'a [usize],
+        entries: &'a [Entry],
+    ) -> Result<(), Refusal>
+        ensures verdict { result ≡ fill_verdict heading starts.now entries.now }
+        ensures means { sheet_meaning self.new ≡ (if is_ok result then sheet_of heading starts.now entries.now else sheet_meaning self.old) }
+        ensures kept { is_ok result ≡ false → self.new ≡ self.old }
+        ensures exact { FillsExactly heading starts.now entries.now result (sheet_meaning self.new) }
+    {
+        verdict(heading, starts, entries)?;
+        *self = Sheet {
+            heading,
+            starts,
+            entries,
+        };
+        Ok(())
+    }
+
     // The carrier's row; `None` past the last carrier.
     fn row(&self, carrier: usize) -> Option<&[Entry]>
         ensures { option_map (λ x. x.now) result ≡ slice_get (sheet_rows self.now.heading self.now.starts.now self.now.entries.now) carrier }
