@@ -10,10 +10,11 @@ use Rattle.auction.specs.declared.standing.Held.{Held}
 use Rattle.auction.specs.declared.standing.Standing.{Standing}
 use Rattle.auction.specs.declared.standing.Standing.TheVariants.{Waiting, Bidding, Served, Out}
 use Rattle.auction.specs.declared.standing.Verdict.TheVariants.{Awarded}
-use Rattle.auction.specs.Tally.{Tally, price_at, holder_at, standing_at, is_bidding, is_out, holds_job, is_holder}
+use Rattle.auction.specs.Standings.{is_bidding, is_out, holds_job, BestSound, StandingSound, is_risen}
+use Rattle.auction.specs.Tally.{Tally, price_at, holder_at, standing_at, is_holder}
 use Rattle.auction.specs.Bids.{offer}
 use Rattle.auction.specs.Rules.{freed, carried_out}
-use Rattle.auction.specs.Consistent.{Consistent, BestSound, StandingSound, is_risen}
+use Rattle.auction.specs.Consistent.{Consistent}
 use Rattle.auction.proofs.Counted.{one, count_set, count_short}
 use Rattle.auction.proofs.Matching.{holds_within, holds_other, is_holder_lem, holder_is, holder_holds, length-freed, freed_other, freed_waits, freed_count}
 

@@ -8,12 +8,12 @@ use Rattle.auction.specs.declared.standing.Best.{Best}
 use Rattle.auction.specs.declared.standing.Bid.{Bid}
 use Rattle.auction.specs.declared.standing.Held.{Held}
 use Rattle.auction.specs.declared.standing.Standing.{Standing}
-use Rattle.auction.specs.declared.standing.Standing.TheVariants.{Waiting, Bidding, Served, Out}
+use Rattle.auction.specs.declared.standing.Standing.TheVariants.{Bidding, Served, Out}
 use Rattle.auction.specs.declared.standing.Verdict.TheVariants.{Awarded}
+use Rattle.auction.specs.Standings.{BestSound}
 use Rattle.auction.specs.Tally.{Tally, price_at, holder_at, standing_at, is_holder}
 use Rattle.auction.specs.Bids.{offer}
 use Rattle.auction.specs.Rules.{carried_out}
-use Rattle.auction.specs.Consistent.{BestSound}
 use Rattle.sources.proofs.Reading.{row_rising}
 use Rattle.auction.proofs.Rows.{job_in, worth_on, listed, by_entries}
 use Rattle.auction.proofs.Nets.{natural-up}
@@ -36,12 +36,12 @@ bid_rise ps qs rise row n r (Some x) g =
 -- Where the price of the job that a served carrier holds is as it was.
 fits_rise : (step : ℕ) (ps qs : List ℕ) → ((k : ℕ) → get_or ps k 0 ≤ get_or qs k 0) → (row : List (ℕ × ℕ)) (s : Standing) →
     ((h : Held) → s ≡ Served h → get_or qs h.job 0 ≡ get_or ps h.job 0) → StandingFits step ps row s → StandingFits step qs row s
-fits_rise step ps qs rise row Waiting same f = f
 fits_rise step ps qs rise row (Bidding b) same f = (f.0, bid_rise ps qs rise row b.looked b.runner_up b.best f.1, ∥∥₁_map f.2 (rise_found ps qs rise row b))
 fits_rise step ps qs rise row (Served h) same f =
     let e = same h refl in let w = f.of_none in
     record { worth_is = f.worth_is; worthy = f.worthy; of_none = omega arith; of_best = λ j. let a = f.of_best j in let b = rise j in omega arith }
 fits_rise step ps qs rise row Out same f = λ j. let a = f j in let b = rise j in omega arith
+fits_rise step ps qs rise row _ same f = f
 
 module _ (m : Meaning) (sound : Sound m) (t : Tally) (inv : Invariant m t) (i : ℕ) (l : i < m.carriers) (b : Bid) (bidding : standing_at t i ≡ Bidding b)
     (all : length (row_of m i) ≤ b.looked) (x : Best) (good : BestSound m.jobs m.ceiling b.runner_up x)

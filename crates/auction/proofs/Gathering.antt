@@ -10,7 +10,7 @@ use Rattle.auction.specs.declared.standing.Best.{Best}
 use Rattle.auction.specs.declared.standing.Bid.{Bid}
 use Rattle.auction.specs.declared.standing.Act.TheVariants.{Look}
 use Rattle.auction.specs.declared.standing.Standing.{Standing}
-use Rattle.auction.specs.declared.standing.Standing.TheVariants.{Waiting, Bidding, Served, Out}
+use Rattle.auction.specs.declared.standing.Standing.TheVariants.{Bidding}
 use Rattle.auction.specs.Bids.{natural, beats, ranked, weighed, looked_on}
 use Rattle.auction.specs.Rules.{looked_all, bid_after}
 use Rattle.auction.specs.Looks.{net_at, nets_at, largest, Gathered, LooksOn}
@@ -94,8 +94,6 @@ module _ (ps : List ℕ) where
 
 -- An accepted look finds an open bid, and looks on.
 pub look_from : (lanes : ℕ) (ps : List ℕ) (row : List (ℕ × ℕ)) (s : Standing) (x : Bid) → bid_after lanes ps row s Look ≡ Ok x → (b : Bid) × (s ≡ Bidding b) × (looked_on lanes ps row b ≡ x)
-look_from lanes ps row Waiting x e = absurd (false≢true cc)
 look_from lanes ps row (Bidding b) x e =
     (b, refl, cond_both {A = Result Bid Refusal} (looked_all row b) _ _ (λ r. r ≡ Ok x → looked_on lanes ps row b ≡ x) (λ _ q. absurd (false≢true cc)) (λ _ q. cc) e)
-look_from lanes ps row (Served h) x e = absurd (false≢true cc)
-look_from lanes ps row Out x e = absurd (false≢true cc)
+look_from lanes ps row _ x e = absurd (false≢true cc)

@@ -11,10 +11,11 @@ use Rattle.auction.specs.declared.standing.Bid.{Bid}
 use Rattle.auction.specs.declared.standing.InFlight.{InFlight}
 use Rattle.auction.specs.declared.standing.Verdict.{Verdict}
 use Rattle.auction.specs.declared.standing.Verdict.TheVariants.{Out as GoesOut, Stale, Awarded}
-use Rattle.auction.specs.Tally.{Tally, standing_at, is_bidding}
+use Rattle.auction.specs.Standings.{is_bidding, in_flight, looks_for}
+use Rattle.auction.specs.Tally.{Tally, standing_at}
 use Rattle.auction.specs.Bids.{best_worth}
 use Rattle.auction.specs.Rules.{bid_at, taken, counted, bids, called, carried_out, verdict_in, verdict_from, settle_answer, ended, settled}
-use Rattle.auction.specs.Runs.{RunState, in_flight, looks_for, first_acts, step_by, one_step, many_steps}
+use Rattle.auction.specs.Runs.{RunState, first_acts, step_by, one_step, many_steps}
 use Rattle.auction.specs.InOrder.{times_in, Ordered}
 use Rattle.auction.specs.MadeOf.{round, Midway, InRounds}
 use Rattle.auction.specs.Sequential.{Sequential}

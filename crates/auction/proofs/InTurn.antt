@@ -9,9 +9,10 @@ use Rattle.auction.specs.declared.standing.Act.{Act}
 use Rattle.auction.specs.declared.standing.Act.TheVariants.{Summon, Look, Settle}
 use Rattle.auction.specs.declared.standing.InFlight.{InFlight}
 use Rattle.auction.specs.declared.standing.Standing.{Standing}
-use Rattle.auction.specs.Tally.{Tally, standing_at, is_waiting, is_bidding}
+use Rattle.auction.specs.Standings.{is_waiting, is_bidding, in_flight, looks_for}
+use Rattle.auction.specs.Tally.{Tally, standing_at}
 use Rattle.auction.specs.Rules.{settle_answer}
-use Rattle.auction.specs.Runs.{RunState, in_flight, looks_for, joins_line, beginning, first_acts, step_by, one_step}
+use Rattle.auction.specs.Runs.{RunState, joins_line, beginning, first_acts, step_by, one_step}
 use Rattle.auction.specs.InOrder.{times_in, Ordered}
 use Rattle.auction.specs.MadeOf.{is_ready, Acted}
 use Rattle.auction.proofs.Counted.{one, one_most}

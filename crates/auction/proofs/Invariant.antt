@@ -5,7 +5,7 @@ use Rattle.sources.specs.Meaning.{Meaning, row_of, worth_in}
 use Rattle.auction.specs.declared.standing.Best.{Best}
 use Rattle.auction.specs.declared.standing.Held.{Held}
 use Rattle.auction.specs.declared.standing.Standing.{Standing}
-use Rattle.auction.specs.declared.standing.Standing.TheVariants.{Waiting, Bidding, Served, Out}
+use Rattle.auction.specs.declared.standing.Standing.TheVariants.{Bidding, Served, Out}
 use Rattle.auction.specs.Tally.{Tally, standing_at}
 use Rattle.auction.specs.Consistent.{Consistent}
 use Rattle.auction.specs.Found.{Found}
@@ -31,10 +31,10 @@ pub record HeldFits (step : ℕ) (ps : List ℕ) (row : List (ℕ × ℕ)) (h : 
   pub of_best : (j : ℕ) → worth_in row j + get_or ps h.job 0 ≤ h.worth + step + get_or ps j 0
 
 abbrev pub StandingFits : ℕ → List ℕ → List (ℕ × ℕ) → Standing → Type 0
-StandingFits step ps row Waiting = Unit {0}
 StandingFits step ps row (Bidding b) = (b.looked ≤ length row) × BidFits ps row b.looked b.runner_up b.best × ∥ Found ps row b ∥₁
 StandingFits step ps row (Served h) = HeldFits step ps row h
 StandingFits step ps row Out = (j : ℕ) → worth_in row j ≤ get_or ps j 0
+StandingFits step ps row _ = Unit {0}
 
 abbrev pub Fits : Meaning → Tally → Type 0
 Fits m t = (i : ℕ) → i < m.carriers → StandingFits t.step t.prices (row_of m i) (standing_at t i)

@@ -13,12 +13,12 @@ use Rattle.auction.specs.declared.standing.Counts.{Counts}
 use Rattle.auction.specs.declared.standing.Act.{Act}
 use Rattle.auction.specs.declared.standing.Act.TheVariants.{Summon, Look, Settle}
 use Rattle.auction.specs.declared.standing.Standing.{Standing}
-use Rattle.auction.specs.declared.standing.Standing.TheVariants.{Waiting, Bidding, Served, Out}
+use Rattle.auction.specs.declared.standing.Standing.TheVariants.{Waiting, Bidding, Out}
 use Rattle.auction.specs.declared.standing.Verdict.{Verdict}
+use Rattle.auction.specs.Standings.{BidSound, StandingSound}
 use Rattle.auction.specs.Tally.{Tally, price_at, standing_at}
 use Rattle.auction.specs.Bids.{fresh, looked_on, offer, judged_best, best_worth}
 use Rattle.auction.specs.Rules.{start_answer, opened, looked_all, bid_after, bid_at, taken, stands, counted, bids, called, counted_out, counted_stale, carried_out, ended, settled}
-use Rattle.auction.specs.Consistent.{BidSound, StandingSound}
 use Rattle.sources.proofs.Reading.{row_rising}
 use Rattle.auction.proofs.Rows.{job_in, worth_on, listed, by_entries}
 use Rattle.auction.proofs.Nets.{natural-up, sides}
@@ -62,15 +62,7 @@ module _ (m : Meaning) (sound : Sound m) where
     call_from Settle l (Bidding b) e =
         cond_both {A = Result Bid Refusal} (looked_all (row_of m i) b) _ _ (KeepsFit (bids Settle i))
         (λ _. stands_fits t inv i l (Bidding b) t.counts (subst (StandingFits t.step t.prices (row_of m i)) e (inv.fits i l))) (λ _. inv.fits)
-    call_from Summon l (Bidding b) e = inv.fits
-    call_from Summon l (Served h) e = inv.fits
-    call_from Summon l Out e = inv.fits
-    call_from Look l Waiting e = inv.fits
-    call_from Look l (Served h) e = inv.fits
-    call_from Look l Out e = inv.fits
-    call_from Settle l Waiting e = inv.fits
-    call_from Settle l (Served h) e = inv.fits
-    call_from Settle l Out e = inv.fits
+    call_from _ l _ e = inv.fits
 
     pub call_keeps : (act : Act) → Invariant m (called m i act t)
     unfolding bid_at

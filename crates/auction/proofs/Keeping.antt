@@ -13,13 +13,14 @@ use Rattle.auction.specs.declared.standing.Bid.{Bid}
 use Rattle.auction.specs.declared.standing.Act.{Act}
 use Rattle.auction.specs.declared.standing.Act.TheVariants.{Summon, Look, Settle}
 use Rattle.auction.specs.declared.standing.Standing.{Standing}
-use Rattle.auction.specs.declared.standing.Standing.TheVariants.{Waiting, Bidding, Served, Out}
+use Rattle.auction.specs.declared.standing.Standing.TheVariants.{Waiting, Bidding, Out}
 use Rattle.auction.specs.declared.standing.Verdict.{Verdict}
 use Rattle.auction.specs.declared.standing.Verdict.TheVariants.{Out as GoesOut, Stale}
-use Rattle.auction.specs.Tally.{Tally, price_at, standing_at, is_served, is_bidding, is_out, holds_job, is_holder}
+use Rattle.auction.specs.Standings.{is_bidding, is_served, is_out, holds_job, BidSound, StandingSound, best_risen, is_risen}
+use Rattle.auction.specs.Tally.{Tally, price_at, standing_at, is_holder}
 use Rattle.auction.specs.Bids.{fresh, looked_on, offer, judged_best, best_worth}
 use Rattle.auction.specs.Rules.{start_answer, opened, looked_all, bid_after, bid_at, taken, counted, bids, called, counted_out, counted_stale, carried_out, ended, settled}
-use Rattle.auction.specs.Consistent.{Limits, BidSound, StandingSound, Consistent, best_risen, is_risen}
+use Rattle.auction.specs.Consistent.{Limits, Consistent}
 use Rattle.sources.proofs.Reading.{row_known, row_within}
 use Rattle.auction.proofs.Counted.{one, none_counted}
 use Rattle.auction.proofs.Nets.{stale_risen}
@@ -96,15 +97,7 @@ module _ (m : Meaning) (sound : Sound m) (t : Tally) (con : Consistent m.carrier
       let x : one (is_risen t.prices (standing_at t i)) ≡ one (best_risen t.prices b.best) = ap (λ s. one (is_risen t.prices s)) e in
       restood m.carriers m.jobs m.ceiling t con i l (Bidding b) t.counts (ap is_served e) refl (subst (StandingSound m.jobs m.ceiling) e (con.sound i)) refl
       (omega (arith, a)) (omega (arith, d)) (omega (arith, x))) (λ _. con)
-  call_from Summon l (Bidding b) e = con
-  call_from Summon l (Served h) e = con
-  call_from Summon l Out e = con
-  call_from Look l Waiting e = con
-  call_from Look l (Served h) e = con
-  call_from Look l Out e = con
-  call_from Settle l Waiting e = con
-  call_from Settle l (Served h) e = con
-  call_from Settle l Out e = con
+  call_from _ l _ e = con
 
   pub call_consistent : (act : Act) → Consistent m.carriers m.jobs m.ceiling (called m i act t)
   unfolding bid_at
@@ -145,12 +138,10 @@ module _ (carriers jobs ceiling : ℕ) (t : Tally) (con : Consistent carriers jo
 module _ (m : Meaning) (t : Tally) (i : ℕ) (P : Tally → Type 0) (h : P t)
     (ends : i < m.carriers → (b : Bid) → standing_at t i ≡ Bidding b → length (row_of m i) ≤ b.looked → P (ended i b t)) where
   settle_from : i < m.carriers → (s : Standing) → standing_at t i ≡ s → P (taken (bid_after t.lanes t.prices (row_of m i) s Settle) (ended i) t)
-  settle_from l Waiting e = h
   settle_from l (Bidding b) e =
       cond_both {A = Result Bid Refusal} (looked_all (row_of m i) b) _ _ (λ r. P (taken r (ended i) t))
       (λ q. ends l b e (leb-true (length (row_of m i)) b.looked q)) (λ _. h)
-  settle_from l (Served x) e = h
-  settle_from l Out e = h
+  settle_from l _ e = h
 
   pub settle_takes : P (settled m i t)
   unfolding bid_at
@@ -163,12 +154,10 @@ settle_consistent m t con i =
 
 -- The bid that settles is the one that stands.
 pub settle_stands : (lanes : ℕ) (ps : List ℕ) (row : List (ℕ × ℕ)) (s : Standing) (b : Bid) → bid_after lanes ps row s Settle ≡ Ok b → s ≡ Bidding b
-settle_stands lanes ps row Waiting b e = absurd (false≢true cc)
 settle_stands lanes ps row (Bidding a) b e =
     cond_both {A = Result Bid Refusal} (looked_all row a) _ _ (λ r. r ≡ Ok b → Bidding a ≡ Bidding b)
     (λ _ q. cc) (λ _ q. absurd (false≢true cc)) e
-settle_stands lanes ps row (Served h) b e = absurd (false≢true cc)
-settle_stands lanes ps row Out b e = absurd (false≢true cc)
+settle_stands lanes ps row _ b e = absurd (false≢true cc)
 
 -- ---- no count is large
 

@@ -17,14 +17,14 @@ use Rattle.auction.specs.declared.standing.Verdict.{Verdict}
 use Rattle.auction.specs.declared.standing.Verdict.TheVariants.{Out as GoesOut, Stale, Awarded}
 use Rattle.auction.specs.declared.standing.Held.{Held}
 use Rattle.auction.specs.declared.standing.Standing.{Standing}
-use Rattle.auction.specs.declared.standing.Standing.TheVariants.{Waiting, Bidding, Served, Out}
-use Rattle.auction.specs.Tally.{Tally, price_at, holder_at, standing_at, is_served, is_bidding, worth_served}
+use Rattle.auction.specs.declared.standing.Standing.TheVariants.{Bidding, Served, Out}
+use Rattle.auction.specs.Standings.{is_bidding, is_served, ServedOrOut, job_served, worth_served, BestSound, BidSound, StandingSound}
+use Rattle.auction.specs.Tally.{Tally, price_at, holder_at, standing_at}
 use Rattle.auction.specs.Bids.{natural, offer, judged_best}
 use Rattle.auction.specs.Rules.{verdict_in}
-use Rattle.auction.specs.Consistent.{BestSound, BidSound, StandingSound}
 use Rattle.auction.specs.Looks.{net_at}
 use Rattle.auction.specs.Found.{Found}
-use Rattle.auction.specs.Laws.{Pairing, OpenBid, Slack, given_worth, worth_along, worth, job_served, ServedOrOut, pairing_of, served, Among, AuctionLaws}
+use Rattle.auction.specs.Laws.{Pairing, OpenBid, Slack, given_worth, worth_along, worth, pairing_of, served, Among, AuctionLaws}
 use Rattle.auction.proofs.Rows.{job_in, worth_on}
 use Rattle.auction.proofs.Matching.{served_within, holder_of, holder_served}
 use Rattle.auction.proofs.Paid.{price_of, paid, paid_distinct, paid_covers}
@@ -35,10 +35,8 @@ use Rattle.auction.proofs.Invariant.{BidFits, StandingFits, Invariant}
 -- ---- the pairing that the standings make
 
 serves : (s : Standing) (j : ℕ) → job_served s ≡ Some j → (h : Held) × (s ≡ Served h) × (h.job ≡ j)
-serves Waiting j e = absurd (none-some _ e)
-serves (Bidding b) j e = absurd (none-some _ e)
 serves (Served h) j e = (h, refl, same_Some _ _ e)
-serves Out j e = absurd (none-some _ e)
+serves _ j e = absurd (none-some _ e)
 
 paired : (ss : List Standing) (i j : ℕ) → get_or (map job_served ss) i None ≡ Some j → (h : Held) × (get_or ss i Out ≡ Served h) × (h.job ≡ j)
 paired [] i j e = absurd (none-some _ e)
@@ -51,21 +49,16 @@ pairs ss i h e = get_or-map job_served ss i Out None (served_within ss i h e) �
 -- ---- what it is worth, and what any other is
 
 valued_one : (step : ℕ) (ps : List ℕ) (row : List (ℕ × ℕ)) (s : Standing) → StandingFits step ps row s → given_worth row (job_served s) ≡ worth_served s
-valued_one step ps row Waiting f = refl
-valued_one step ps row (Bidding b) f = refl
 valued_one step ps row (Served h) f = sym f.worth_is
-valued_one step ps row Out f = refl
+valued_one step ps row _ f = refl
 
 bound_one : (step : ℕ) (ps : List ℕ) (row : List (ℕ × ℕ)) (o : Option ℕ) (s : Standing) → StandingFits step ps row s → ((j : ℕ) → o ≡ Some j → ServedOrOut s) →
     given_worth row o + price_of ps (job_served s) ≤ worth_served s + step * cond (is_served s) 1 0 + price_of ps o
-bound_one step ps row None Waiting f d = omega arith
-bound_one step ps row None (Bidding b) f d = omega arith
 bound_one step ps row None (Served h) f d = let w = f.of_none in omega arith
-bound_one step ps row None Out f d = omega arith
-bound_one step ps row (Some j) Waiting f d = absurd (d j refl)
-bound_one step ps row (Some j) (Bidding b) f d = absurd (d j refl)
+bound_one step ps row None _ f d = omega arith
 bound_one step ps row (Some j) (Served h) f d = let w = f.of_best j in omega arith
 bound_one step ps row (Some j) Out f d = let w = f j in omega arith
+bound_one step ps row (Some j) _ f d = absurd (d j refl)
 
 module _ (step : ℕ) (ps : List ℕ) where
   abbrev AllFit : List (List (ℕ × ℕ)) → List Standing → Type 0

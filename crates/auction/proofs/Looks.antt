@@ -8,7 +8,7 @@ use Rattle.auction.specs.declared.standing.Best.{Best}
 use Rattle.auction.specs.declared.standing.Bid.{Bid}
 use Rattle.auction.specs.Bids.{natural, beats, ranked, weighed, looked_on}
 use Rattle.auction.specs.Looks.{net_at}
-use Rattle.auction.specs.Consistent.{BestSound, BidSound, best_risen}
+use Rattle.auction.specs.Standings.{BestSound, BidSound, best_risen}
 use Rattle.auction.proofs.Counted.{one}
 use Rattle.auction.proofs.Nets.{natural-up, sides, net_is, beats-true, beats-false, risen_false}
 

@@ -10,7 +10,8 @@ use Rattle.auction.specs.declared.standing.Act.{Act}
 use Rattle.auction.specs.declared.standing.Act.TheVariants.{Summon, Look}
 use Rattle.auction.specs.declared.standing.Report.{Report}
 use Rattle.auction.specs.declared.standing.InFlight.{InFlight}
-use Rattle.auction.specs.Tally.{Tally, standing_at, is_bidding}
+use Rattle.auction.specs.Standings.{is_bidding}
+use Rattle.auction.specs.Tally.{Tally, standing_at}
 use Rattle.auction.specs.Rules.{between}
 use Rattle.auction.specs.Consistent.{Consistent}
 use Rattle.auction.specs.Runs.{RunState, beginning, one_step, many_steps, run_report, run_answer, run_tally, ran}

@@ -4,31 +4,26 @@ use Rattle.std.proofs.lemmas.Bool.{cases_lt, both_ways, eqb-true, eqb-false, eq-
 use Rattle.std.proofs.lemmas.List.{get_or-set_same, get_or-set_other, length-set, get_or_past}
 use Rattle.auction.specs.declared.standing.Held.{Held}
 use Rattle.auction.specs.declared.standing.Standing.{Standing}
-use Rattle.auction.specs.declared.standing.Standing.TheVariants.{Waiting, Bidding, Served, Out}
-use Rattle.auction.specs.Tally.{Tally, holder_at, standing_at, is_served, holds_job, is_holder}
+use Rattle.auction.specs.declared.standing.Standing.TheVariants.{Waiting, Served, Out}
+use Rattle.auction.specs.Standings.{is_served, holds_job}
+use Rattle.auction.specs.Tally.{Tally, holder_at, standing_at, is_holder}
 use Rattle.auction.specs.Rules.{freed}
 use Rattle.auction.specs.Consistent.{Consistent}
 use Rattle.auction.proofs.Counted.{one, count_set}
 
 -- Who is not served holds no job.
 pub holds_none : (j : ℕ) (s : Standing) → is_served s ≡ false → holds_job j s ≡ false
-holds_none j Waiting e = refl
-holds_none j (Bidding b) e = refl
 holds_none j (Served h) e = absurd (both_ways true e refl)
-holds_none j Out e = refl
+holds_none j _ e = refl
 
 pub holds_served : (j : ℕ) (s : Standing) → holds_job j s ≡ true → (h : Held) × (s ≡ Served h) × (h.job ≡ j)
-holds_served j Waiting e = absurd (both_ways false refl e)
-holds_served j (Bidding b) e = absurd (both_ways false refl e)
 holds_served j (Served h) e = (h, refl, eqb-true h.job j e)
-holds_served j Out e = absurd (both_ways false refl e)
+holds_served j _ e = absurd (both_ways false refl e)
 
 -- A carrier holds one job at most.
 pub holds_other : (j k : ℕ) (s : Standing) → holds_job j s ≡ true → (k ≡ j → ⊥) → holds_job k s ≡ false
-holds_other j k Waiting e n = refl
-holds_other j k (Bidding b) e n = refl
 holds_other j k (Served h) e n = ne_eqb h.job k (λ q. n (sym q ∙ eqb-true h.job j e))
-holds_other j k Out e n = refl
+holds_other j k _ e n = refl
 
 pub is_holder_lem : (i : ℕ) (o : Option ℕ) → is_holder i o ≡ true → o ≡ Some i
 is_holder_lem i None e = absurd (both_ways false refl e)

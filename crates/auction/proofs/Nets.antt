@@ -5,7 +5,7 @@ use borrow.Author.Differences.{up, down, ints, lt-true, lt-false, le-true, le-fa
 use Rattle.std.proofs.lemmas.Bool.{cases_Bool, leb-true, ltb-true, ltb-false, or_cases, or_parts, and_parts, and_cases}
 use Rattle.auction.specs.declared.standing.Best.{Best}
 use Rattle.auction.specs.Bids.{natural, beats, offer}
-use Rattle.auction.specs.Consistent.{best_risen}
+use Rattle.auction.specs.Standings.{best_risen}
 
 pub natural-up : (z : ℤ) → natural z ≡ up z
 natural-up (pos n) = refl

@@ -11,9 +11,10 @@ use lib.Signed.{le_z}
 use Rattle.sources.specs.Meaning.{Meaning, row_of, worth_in}
 use Rattle.auction.specs.declared.standing.Best.{Best}
 use Rattle.auction.specs.declared.standing.Standing.{Standing}
-use Rattle.auction.specs.declared.standing.Standing.TheVariants.{Waiting, Bidding, Served, Out}
-use Rattle.auction.specs.Tally.{Tally, price_at, holder_at, standing_at, is_bidding, is_out, holds_job, is_holder}
-use Rattle.auction.specs.Consistent.{Limits, BidSound, StandingSound, Consistent}
+use Rattle.auction.specs.declared.standing.Standing.TheVariants.{Bidding, Served, Out}
+use Rattle.auction.specs.Standings.{is_bidding, is_out, holds_job, BidSound, StandingSound}
+use Rattle.auction.specs.Tally.{Tally, price_at, holder_at, standing_at, is_holder}
+use Rattle.auction.specs.Consistent.{Limits, Consistent}
 use Rattle.auction.proofs.Rows.{worth_on}
 use Rattle.auction.proofs.Invariant.{BestFits, BidFits, StandingFits, Invariant}
 
@@ -41,10 +42,9 @@ bid_prop jobs ceiling r (Some x) p q = λ i. record {
 }
 
 standing_prop : (jobs ceiling : ℕ) (s : Standing) → IsProp (StandingSound jobs ceiling s)
-standing_prop jobs ceiling Waiting = Unit-prop
 standing_prop jobs ceiling (Bidding b) = bid_prop jobs ceiling b.runner_up b.best
 standing_prop jobs ceiling (Served h) = le_prop
-standing_prop jobs ceiling Out = Unit-prop
+standing_prop jobs ceiling _ = Unit-prop
 
 pub consistent_prop : (carriers jobs ceiling : ℕ) (t : Tally) → IsProp (Consistent carriers jobs ceiling t)
 consistent_prop carriers jobs ceiling t p q = λ i. record {
@@ -77,7 +77,6 @@ bid_fits_prop ps row looked r None p q = λ i k l. ℕ_set (worth_on row k) 0 (p
 bid_fits_prop ps row looked r (Some x) p q = best_fits_prop ps row looked r x p q
 
 standing_fits_prop : (step : ℕ) (ps : List ℕ) (row : List (ℕ × ℕ)) (s : Standing) → IsProp (StandingFits step ps row s)
-standing_fits_prop step ps row Waiting p q = Unit-prop p q
 standing_fits_prop step ps row (Bidding b) p q = λ i. (le_prop p.0 q.0 i, bid_fits_prop ps row b.looked b.runner_up b.best p.1 q.1 i, ∥∥₁_prop p.2 q.2 i)
 standing_fits_prop step ps row (Served h) p q = λ i. record {
   worth_is = ℕ_set h.worth (worth_in row h.job) p.worth_is q.worth_is i;
@@ -86,6 +85,7 @@ standing_fits_prop step ps row (Served h) p q = λ i. record {
   of_best = λ j. le_prop (p.of_best j) (q.of_best j) i;
 }
 standing_fits_prop step ps row Out p q = λ i j. le_prop (p j) (q j) i
+standing_fits_prop step ps row _ p q = Unit-prop p q
 
 pub invariant_prop : (m : Meaning) (t : Tally) → IsProp (Invariant m t)
 invariant_prop m t p q = λ i. record {

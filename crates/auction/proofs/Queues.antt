@@ -10,8 +10,8 @@ use Rattle.auction.specs.declared.standing.Bid.{Bid}
 use Rattle.auction.specs.declared.standing.InFlight.{InFlight}
 use Rattle.auction.specs.declared.standing.Standing.{Standing}
 use Rattle.auction.specs.declared.standing.Standing.TheVariants.{Waiting, Bidding, Served, Out}
-use Rattle.auction.specs.Tally.{is_waiting, is_bidding, is_served}
-use Rattle.auction.specs.Runs.{in_flight, looks_for, gathered}
+use Rattle.auction.specs.Standings.{is_waiting, is_bidding, is_served, in_flight, looks_for}
+use Rattle.auction.specs.Runs.{gathered}
 use Rattle.auction.specs.InOrder.{times_in, Due, InOrder}
 use Rattle.auction.proofs.Counted.{one, one_most, count_set}
 
@@ -189,9 +189,7 @@ bidding_within ss i b e = within is_bidding refl ss i (let z : one (is_bidding (
 
 pub is_waiting_lem : (s : Standing) → 1 ≤ one (is_waiting s) → s ≡ Waiting
 is_waiting_lem Waiting l = refl
-is_waiting_lem (Bidding b) l = absurd (omega arith)
-is_waiting_lem (Served h) l = absurd (omega arith)
-is_waiting_lem Out l = absurd (omega arith)
+is_waiting_lem _ l = absurd (omega arith)
 
 -- A carrier in flight that is not i stays due.
 due_stays : (m : Meaning) (lanes : ℕ) (ss : List Standing) (i : ℕ) (s : Standing) (f : InFlight) → (f.carrier ≡ i → ⊥) → Due m lanes ss f → Due m lanes (set ss i s) f
@@ -294,10 +292,8 @@ module _ (m : Meaning) (lanes : ℕ) where
   }
     where
       neither : (s : Standing) → is_served s ≡ true → (one (is_waiting s) ≡ 0) × (one (is_bidding s) ≡ 0)
-      neither Waiting e = absurd (both_ways false refl e)
-      neither (Bidding b) e = absurd (both_ways false refl e)
       neither (Served h) e = (refl, refl)
-      neither Out e = absurd (both_ways false refl e)
+      neither _ e = absurd (both_ways false refl e)
 
       inside : i < length ss
       inside = within is_served refl ss i (let v : one (is_served (get_or ss i Out)) ≡ 1 = ap one sv in omega (arith, v))

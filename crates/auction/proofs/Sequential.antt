@@ -14,16 +14,16 @@ use Rattle.auction.specs.declared.standing.Best.{Best}
 use Rattle.auction.specs.declared.standing.Bid.{Bid}
 use Rattle.auction.specs.declared.standing.Counts.{Counts}
 use Rattle.auction.specs.declared.standing.Standing.{Standing}
-use Rattle.auction.specs.declared.standing.Standing.TheVariants.{Waiting, Bidding, Served, Out}
+use Rattle.auction.specs.declared.standing.Standing.TheVariants.{Waiting, Bidding, Out}
 use Rattle.auction.specs.declared.standing.Verdict.{Verdict}
 use Rattle.auction.specs.declared.standing.Verdict.TheVariants.{Out as GoesOut, Stale, Awarded}
 use Rattle.auction.specs.declared.call.Call.{Call}
-use Rattle.auction.specs.Tally.{Tally, price_at, standing_at, is_bidding}
+use Rattle.auction.specs.Standings.{is_bidding, BidSound, StandingSound}
+use Rattle.auction.specs.Tally.{Tally, price_at, standing_at}
 use Rattle.auction.specs.Bids.{natural, beats, offer, judged_best, best_worth, looked_on}
 use Rattle.auction.specs.Looks.{net_at, nets_at, Gathered, BestOf}
 use Rattle.auction.specs.Rules.{looked_all, bid_after, bid_at, taken, stands, counted, counted_out, counted_stale, bids, called, carried_out, verdict_in, verdict_from, settle_answer, settled}
 use Rattle.auction.specs.Calls.{tally_by, tally_from, is_start, has_start}
-use Rattle.auction.specs.Consistent.{BidSound, StandingSound}
 use Rattle.auction.specs.Sequential.{Sequential, SettlesAlone}
 use Rattle.auction.proofs.Nets.{natural-up, sides, net_is, beats-false}
 use Rattle.auction.proofs.Weighed.{folded_looked}
@@ -122,25 +122,19 @@ module _ (t : Tally) (row : List (ℕ × ℕ)) (jobs ceiling r : ℕ) (some : 1 
 
 -- The bid that settles has looked at the whole row.
 settle_looked : (lanes : ℕ) (ps : List ℕ) (row : List (ℕ × ℕ)) (s : Standing) (b : Bid) → bid_after lanes ps row s Settle ≡ Ok b → length row ≤ b.looked
-settle_looked lanes ps row Waiting b e = absurd (false≢true cc)
 settle_looked lanes ps row (Bidding a) b e =
     cond_both {A = Result Bid Refusal} (looked_all row a) _ _ (λ r. r ≡ Ok b → length row ≤ b.looked)
     (λ q h. let same : a ≡ b = cc in subst (λ (c : Bid). length row ≤ c.looked) same (leb-true (length row) a.looked q)) (λ _ h. absurd (false≢true cc)) e
-settle_looked lanes ps row (Served h) b e = absurd (false≢true cc)
-settle_looked lanes ps row Out b e = absurd (false≢true cc)
+settle_looked lanes ps row _ b e = absurd (false≢true cc)
 
 -- What the open bid of carrier k has seen, it has seen at these prices.
 abbrev pub SeenAt : Meaning → ℕ → List ℕ → Standing → Type 0
-SeenAt m k ps Waiting = Unit {0}
 SeenAt m k ps (Bidding b) = Gathered 0 b.runner_up (nets_at ps (take b.looked (row_of m k))) b.best
-SeenAt m k ps (Served h) = Unit {0}
-SeenAt m k ps Out = Unit {0}
+SeenAt m k ps _ = Unit {0}
 
 pub idle_seen : (m : Meaning) (k : ℕ) (ps : List ℕ) (s : Standing) → is_bidding s ≡ false → SeenAt m k ps s
-idle_seen m k ps Waiting e = tt
 idle_seen m k ps (Bidding b) e = absurd (both_ways true e refl)
-idle_seen m k ps (Served h) e = tt
-idle_seen m k ps Out e = tt
+idle_seen m k ps _ e = tt
 
 module _ (m : Meaning) (sound : Sound m) (n i : ℕ) where
   -- There are n awards at least; and while there are n, carrier i's bid has seen the prices now.
@@ -170,15 +164,7 @@ module _ (m : Meaning) (sound : Sound m) (n i : ℕ) where
         cond_both {A = Result Bid Refusal} (looked_all (row_of m k) b) _ _ SeenBy (λ _. tt)
         (λ _ q now. look_gathers t.prices (row_of m k) t.lanes b (subst (StandingFits t.step t.prices (row_of m k)) e (inv.fits k l)).0 (seen_here b e q now))
     bid_sees Settle (Bidding b) e = cond_both {A = Result Bid Refusal} (looked_all (row_of m k) b) _ _ SeenBy (λ _. seen_here b e) (λ _. tt)
-    bid_sees Summon (Bidding b) e = tt
-    bid_sees Summon (Served h) e = tt
-    bid_sees Summon Out e = tt
-    bid_sees Look Waiting e = tt
-    bid_sees Look (Served h) e = tt
-    bid_sees Look Out e = tt
-    bid_sees Settle Waiting e = tt
-    bid_sees Settle (Served h) e = tt
-    bid_sees Settle Out e = tt
+    bid_sees _ _ e = tt
 
     call_from : (act : Act) (r : Result Bid Refusal) → SeenBy r → Steady (taken r (bids act k) t)
     call_from act (Ok b) new = stands-steady t inv f k l (Bidding b) (counted act t.counts) (counted_awards act t.counts) new

@@ -5,9 +5,10 @@ use Rattle.std.proofs.lemmas.List.{get_or-set_same, get_or-set_other, length-set
 use Rattle.auction.specs.declared.standing.Counts.{Counts}
 use Rattle.auction.specs.declared.standing.Standing.{Standing}
 use Rattle.auction.specs.declared.standing.Standing.TheVariants.{Out}
-use Rattle.auction.specs.Tally.{Tally, holder_at, standing_at, is_served, is_bidding, is_out, holds_job, is_holder}
+use Rattle.auction.specs.Standings.{is_bidding, is_served, is_out, holds_job, StandingSound, is_risen}
+use Rattle.auction.specs.Tally.{Tally, holder_at, standing_at, is_holder}
 use Rattle.auction.specs.Rules.{stands}
-use Rattle.auction.specs.Consistent.{Consistent, StandingSound, is_risen}
+use Rattle.auction.specs.Consistent.{Consistent}
 use Rattle.auction.proofs.Counted.{one, count_set}
 use Rattle.auction.proofs.Matching.{holds_none}
 

@@ -21,11 +21,12 @@ use Rattle.auction.specs.declared.standing.Verdict.{Verdict}
 use Rattle.auction.specs.declared.standing.Verdict.TheVariants.{Out as GoesOut, Stale, Awarded}
 use Rattle.auction.specs.declared.standing.Ending.{Ending}
 use Rattle.auction.specs.declared.standing.Ending.TheVariants.{Done, Spent}
-use Rattle.auction.specs.Tally.{Tally, holder_at, standing_at, is_waiting, is_bidding, is_served}
+use Rattle.auction.specs.Standings.{is_waiting, is_bidding, is_served, if_waiting, in_flight, looks_for, if_bidding}
+use Rattle.auction.specs.Tally.{Tally, holder_at, standing_at}
 use Rattle.auction.specs.Bids.{fresh, looked_on, offer, judged_best, best_worth}
 use Rattle.auction.specs.Rules.{looked_all, bid_after, bid_at, taken, counted, bids, called, freed, carried_out, verdict_in, verdict_from, settle_answer, ended, settled}
 use Rattle.auction.specs.Consistent.{Consistent}
-use Rattle.auction.specs.Runs.{RunState, in_flight, looks_for, gathered, if_waiting, if_bidding, beginning, waits_after, joins_line, first_acts, step_by, one_step, many_steps, ending_of, run_report, Reports}
+use Rattle.auction.specs.Runs.{RunState, gathered, beginning, waits_after, joins_line, first_acts, step_by, one_step, many_steps, ending_of, run_report, Reports}
 use Rattle.auction.specs.InOrder.{times_in, Due, InOrder, Ordered, Grown}
 use Rattle.auction.proofs.Gathering.{looks_on}
 use Rattle.auction.proofs.Counted.{one}
@@ -278,28 +279,20 @@ module _ (m : Meaning) where
 
 waiting_here : (i : ℕ) (s : Standing) → times_in (λ z. z) i (if_waiting i s) ≡ one (is_waiting s)
 waiting_here i Waiting = times_first (λ z. z) i []
-waiting_here i (Bidding b) = refl
-waiting_here i (Served h) = refl
-waiting_here i Out = refl
+waiting_here i _ = refl
 
 waiting_there : (k i : ℕ) (s : Standing) → (k ≡ i → ⊥) → times_in (λ z. z) k (if_waiting i s) ≡ 0
 waiting_there k i Waiting n = times_later (λ z. z) k i [] n
-waiting_there k i (Bidding b) n = refl
-waiting_there k i (Served h) n = refl
-waiting_there k i Out n = refl
+waiting_there k i _ n = refl
 
 module _ (m : Meaning) (lanes : ℕ) where
   bidding_here : (i : ℕ) (s : Standing) → times_in {X = InFlight} (λ f. f.carrier) i (if_bidding m lanes i s) ≡ one (is_bidding s)
-  bidding_here i Waiting = refl
   bidding_here i (Bidding b) = times_first {X = InFlight} (λ f. f.carrier) (in_flight i (looks_for lanes (length (row_of m i) - b.looked))) []
-  bidding_here i (Served h) = refl
-  bidding_here i Out = refl
+  bidding_here i _ = refl
 
   bidding_there : (k i : ℕ) (s : Standing) → (k ≡ i → ⊥) → times_in {X = InFlight} (λ f. f.carrier) k (if_bidding m lanes i s) ≡ 0
-  bidding_there k i Waiting n = refl
   bidding_there k i (Bidding b) n = times_later {X = InFlight} (λ f. f.carrier) k (in_flight i (looks_for lanes (length (row_of m i) - b.looked))) [] n
-  bidding_there k i (Served h) n = refl
-  bidding_there k i Out n = refl
+  bidding_there k i _ n = refl
 
   module _ (all : List Standing) where
     next : (i : ℕ) (s : Standing) (ss : List Standing) → ((k : ℕ) → get_or all (i + k) Out ≡ get_or (s ∷ ss) k Out) → (k : ℕ) → get_or all (suc i + k) Out ≡ get_or ss k Out
@@ -307,11 +300,9 @@ module _ (m : Meaning) (lanes : ℕ) where
 
     flight_due : (i : ℕ) (ss : List Standing) → ((k : ℕ) → get_or all (i + k) Out ≡ get_or ss k Out) → AllByRecursion (Due m lanes all) (gathered (if_bidding m lanes) i ss)
     flight_due i [] h = tt
-    flight_due i (Waiting ∷ ss) h = flight_due (suc i) ss (next i Waiting ss h)
     flight_due i (Bidding b ∷ ss) h =
         ((b, ap (λ z. get_or all z Out) (omega arith) ∙ h 0, refl), flight_due (suc i) ss (next i (Bidding b) ss h))
-    flight_due i (Served x ∷ ss) h = flight_due (suc i) ss (next i (Served x) ss h)
-    flight_due i (Out ∷ ss) h = flight_due (suc i) ss (next i Out ss h)
+    flight_due i (s ∷ ss) h = flight_due (suc i) ss (next i s ss h)
 
 pub begins_ordered : (m : Meaning) (t : Tally) → Ordered m (beginning m t)
 unfolding beginning
@@ -354,9 +345,7 @@ module _ (m : Meaning) where
     where
       either : (s : Standing) → one (is_waiting s) + one (is_bidding s) ≤ 1
       either Waiting = omega arith
-      either (Bidding b) = omega arith
-      either (Served h) = omega arith
-      either Out = omega arith
+      either _ = omega arith
 
       apart : (ss : List Standing) → count_by is_waiting ss + count_by is_bidding ss ≤ length ss
       apart [] = omega arith

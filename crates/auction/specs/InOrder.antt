@@ -7,8 +7,8 @@ use Rattle.auction.specs.declared.standing.Counts.{Counts}
 use Rattle.auction.specs.declared.standing.InFlight.{InFlight}
 use Rattle.auction.specs.declared.standing.Standing.{Standing}
 use Rattle.auction.specs.declared.standing.Standing.TheVariants.{Bidding, Out}
-use Rattle.auction.specs.Tally.{is_waiting, is_bidding}
-use Rattle.auction.specs.Runs.{RunState, looks_for}
+use Rattle.auction.specs.Standings.{is_waiting, is_bidding, looks_for}
+use Rattle.auction.specs.Runs.{RunState}
 
 -- How many elements have the number k.
 abbrev pub times_in : {X : Type 0} → (X → ℕ) → ℕ → List X → ℕ

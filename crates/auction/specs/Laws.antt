@@ -7,9 +7,9 @@ use Rattle.auction.specs.declared.standing.Best.{Best}
 use Rattle.auction.specs.declared.standing.Bid.{Bid}
 use Rattle.auction.specs.declared.standing.Held.{Held}
 use Rattle.auction.specs.declared.standing.Verdict.TheVariants.{Stale, Awarded}
-use Rattle.auction.specs.declared.standing.Standing.{Standing}
-use Rattle.auction.specs.declared.standing.Standing.TheVariants.{Waiting, Bidding, Served, Out}
-use Rattle.auction.specs.Tally.{Tally, price_at, holder_at, standing_at, is_waiting, is_served, is_bidding, total_worth}
+use Rattle.auction.specs.declared.standing.Standing.TheVariants.{Bidding, Served, Out}
+use Rattle.auction.specs.Standings.{is_waiting, is_bidding, is_served, ServedOrOut, job_served}
+use Rattle.auction.specs.Tally.{Tally, price_at, holder_at, standing_at, total_worth}
 use Rattle.auction.specs.Bids.{natural, offer}
 use Rattle.auction.specs.Looks.{net_at}
 use Rattle.auction.specs.Found.{Found}
@@ -33,19 +33,6 @@ worth_along (row ∷ rows) (o ∷ p) = given_worth row o + worth_along rows p
 -- What the pairing is worth.
 abbrev pub worth : Meaning → List (Option ℕ) → ℕ
 worth m p = worth_along m.rows p
-
-abbrev pub job_served : Standing → Option ℕ
-job_served Waiting = None
-job_served (Bidding b) = None
-job_served (Served h) = Some h.job
-job_served Out = None
-
--- Served or out.
-abbrev pub ServedOrOut : Standing → Type 0
-ServedOrOut Waiting = ⊥
-ServedOrOut (Bidding b) = ⊥
-ServedOrOut (Served h) = Unit {0}
-ServedOrOut Out = Unit {0}
 
 abbrev pub pairing_of : Tally → List (Option ℕ)
 pairing_of t = map job_served t.standings

@@ -1,5 +1,6 @@
 pub mod Tally
 pub mod Bids
+pub mod Standings
 pub mod Rules
 pub mod Consistent
 pub mod Looks

@@ -9,9 +9,10 @@ use Rattle.auction.specs.declared.standing.Standing.{Standing}
 use Rattle.auction.specs.declared.standing.Verdict.{Verdict}
 use Rattle.auction.specs.declared.call.Call.{Call}
 use Rattle.auction.specs.declared.call.Call.TheVariants.{Summon, Look, Settle}
-use Rattle.auction.specs.Tally.{Tally, standing_at, is_waiting, is_bidding}
+use Rattle.auction.specs.Standings.{is_waiting, is_bidding, looks_for}
+use Rattle.auction.specs.Tally.{Tally, standing_at}
 use Rattle.auction.specs.Rules.{settle_answer}
-use Rattle.auction.specs.Runs.{looks_for, run_answer, run_tally}
+use Rattle.auction.specs.Runs.{run_answer, run_tally}
 use Rattle.auction.specs.Calls.{tally_from, tally_after, answers_from}
 use Rattle.auction.specs.Laws.{waiting, bidding}
 use Rattle.auction.specs.Sequential.{Sequential}

@@ -1,5 +1,5 @@
 -- Run: a line of carriers that wait, and a flight of those that bid, each with the looks that it has left.
-use Rattle.std.specs.Prelude.{◌≡◌, ℕ, zero, suc, ◌+◌, ◌-◌, ◌/◌, ◌≤◌, Bool, true, false, cond, List, [], ◌∷◌, ◌++◌, length, Some, None, Ok, Err, count_by, Option, Result, ◌==◌, nat_lt}
+use Rattle.std.specs.Prelude.{◌≡◌, ℕ, zero, suc, ◌+◌, ◌-◌, ◌≤◌, Bool, true, false, cond, List, [], ◌∷◌, ◌++◌, length, Some, None, Ok, Err, count_by, Option, Result, ◌==◌, nat_lt}
 use Rattle.std.specs.Option.{option_map, option_to_list}
 use Rattle.sources.specs.Meaning.{Meaning, row_of}
 use Rattle.refusals.specs.declared.Refusal.{Refusal}
@@ -8,13 +8,13 @@ use Rattle.auction.specs.declared.standing.Act.TheVariants.{Summon, Look}
 use Rattle.auction.specs.declared.standing.Counts.{Counts}
 use Rattle.auction.specs.declared.standing.InFlight.{InFlight}
 use Rattle.auction.specs.declared.standing.Standing.{Standing}
-use Rattle.auction.specs.declared.standing.Standing.TheVariants.{Waiting, Bidding, Served, Out}
 use Rattle.auction.specs.declared.standing.Verdict.{Verdict}
 use Rattle.auction.specs.declared.standing.Verdict.TheVariants.{Out as GoesOut, Stale, Awarded}
 use Rattle.auction.specs.declared.standing.Ending.{Ending}
 use Rattle.auction.specs.declared.standing.Ending.TheVariants.{Done, Spent}
 use Rattle.auction.specs.declared.standing.Report.{Report}
-use Rattle.auction.specs.Tally.{Tally, is_waiting, is_bidding}
+use Rattle.auction.specs.Standings.{is_waiting, is_bidding, if_waiting, in_flight, looks_for, if_bidding}
+use Rattle.auction.specs.Tally.{Tally}
 use Rattle.auction.specs.Rules.{between, called, settle_answer, settled}
 
 -- What a run works on: the line, the flight, the tally, and the steps made so far.
@@ -24,29 +24,10 @@ pub record RunState : Type 0 where
   pub tally : Tally
   pub steps : ℕ
 
-abbrev pub in_flight : ℕ → ℕ → InFlight
-in_flight i left = record { carrier = i; looks_left = left }
-
--- How many looks of so many lanes go through n entries.
-abbrev pub looks_for : ℕ → ℕ → ℕ
-looks_for lanes n = (n + (lanes - 1)) / lanes
-
 -- What f gives for each standing and its carrier, ascending; the first is carrier i.
 abbrev pub gathered : {X : Type 0} → (ℕ → Standing → List X) → ℕ → List Standing → List X
 gathered f i [] = []
 gathered f i (s ∷ ss) = f i s ++ gathered f (suc i) ss
-
-abbrev pub if_waiting : ℕ → Standing → List ℕ
-if_waiting i Waiting = i ∷ []
-if_waiting i (Bidding b) = []
-if_waiting i (Served h) = []
-if_waiting i Out = []
-
-abbrev pub if_bidding : Meaning → ℕ → ℕ → Standing → List InFlight
-if_bidding m lanes i Waiting = []
-if_bidding m lanes i (Bidding b) = in_flight i (looks_for lanes (length (row_of m i) - b.looked)) ∷ []
-if_bidding m lanes i (Served h) = []
-if_bidding m lanes i Out = []
 
 -- At first everybody who waits is in line and everybody who bids is in flight, both in the order of the carrier numbers.
 unfoldable pub beginning : Meaning → Tally → RunState

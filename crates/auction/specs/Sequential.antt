@@ -9,7 +9,8 @@ use Rattle.auction.specs.declared.standing.Verdict.{Verdict}
 use Rattle.auction.specs.declared.standing.Verdict.TheVariants.{Out, Stale, Awarded}
 use Rattle.auction.specs.Bids.{natural}
 use Rattle.auction.specs.Looks.{nets_at, BestOf}
-use Rattle.auction.specs.Tally.{Tally, price_at, holder_at, standing_at, is_bidding}
+use Rattle.auction.specs.Standings.{is_bidding}
+use Rattle.auction.specs.Tally.{Tally, price_at, holder_at, standing_at}
 use Rattle.auction.specs.Rules.{settle_answer}
 use Rattle.auction.specs.Calls.{tally_from, tally_after, has_start}
 

@@ -3,19 +3,17 @@ use Rattle.std.proofs.Common.{◌≡◌, ℕ, ◌^◌, ◌<◌, ◌≤◌, lengt
 use Rattle.std.proofs.lemmas.List.{get_or-take, length-take-le}
 use Rattle.std.proofs.ByRecursion.{All-from_get_or, sum_by_le}
 use Rattle.auction.specs.declared.standing.Standing.{Standing}
-use Rattle.auction.specs.declared.standing.Standing.TheVariants.{Waiting, Bidding, Served, Out}
-use Rattle.auction.specs.Tally.{standing_at, worth_served}
-use Rattle.auction.specs.Consistent.{StandingSound}
+use Rattle.auction.specs.declared.standing.Standing.TheVariants.{Served, Out}
+use Rattle.auction.specs.Standings.{worth_served, StandingSound}
+use Rattle.auction.specs.Tally.{standing_at}
 use Rattle.hall.specs.declared.books.Books.{Books}
 use Rattle.hall.specs.InBooks.{tally_in}
 use Rattle.hall.proofs.Keeps.{kept_out}
 use Rattle.hall.proofs.Tables.{consistent_in}
 
 worth_low : (jobs ceiling : ℕ) (s : Standing) → ceiling ≤ 2 ^ 36 → StandingSound jobs ceiling s → worth_served s ≤ 2 ^ 36
-worth_low jobs ceiling Waiting c k = omega arith
-worth_low jobs ceiling (Bidding b) c k = omega arith
 worth_low jobs ceiling (Served h) c k = omega (arith, c, k)
-worth_low jobs ceiling Out c k = omega arith
+worth_low jobs ceiling _ c k = omega arith
 
 module _ (b : Books) where
   long_enough : b.noted.carriers ≤ length b.standings

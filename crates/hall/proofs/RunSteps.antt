@@ -5,16 +5,18 @@ use Rattle.std.proofs.lemmas.Bool.{and_parts, and_left, both_ways, eqb-true, ne_
 use Rattle.sources.specs.Meaning.{Meaning, Sound, row_of}
 use Rattle.sources.specs.Tables.{heading_of}
 use Rattle.refusals.specs.declared.Refusal.{Refusal}
+use Rattle.auction.specs.declared.standing.Bid.{Bid}
 use Rattle.auction.specs.declared.standing.Counts.{Counts}
 use Rattle.auction.specs.declared.standing.Ending.{Ending}
 use Rattle.auction.specs.declared.standing.Ending.TheVariants.{Done, Spent}
 use Rattle.auction.specs.declared.standing.InFlight.{InFlight}
 use Rattle.auction.specs.declared.standing.Report.{Report}
 use Rattle.auction.specs.declared.standing.Standing.{Standing}
-use Rattle.auction.specs.declared.standing.Standing.TheVariants.{Waiting, Bidding, Served, Out}
+use Rattle.auction.specs.declared.standing.Standing.TheVariants.{Waiting, Bidding}
 use Rattle.auction.specs.Consistent.{Consistent}
 use Rattle.auction.specs.Rules.{between}
-use Rattle.auction.specs.Runs.{RunState, gathered, if_waiting, if_bidding, beginning, first_acts, step_by, one_step, many_steps, ending_of, since, report_of, run_report, Reports, run_answer, ran, run_tally}
+use Rattle.auction.specs.Standings.{if_waiting, if_bidding}
+use Rattle.auction.specs.Runs.{RunState, gathered, beginning, first_acts, step_by, one_step, many_steps, ending_of, since, report_of, run_report, Reports, run_answer, ran, run_tally}
 use Rattle.auction.specs.InOrder.{Ordered, Grown}
 use Rattle.auction.specs.MadeOf.{MadeOf}
 use Rattle.auction.specs.Reached.{Reached}
@@ -95,15 +97,20 @@ module _ {X : Type 0} (f : ℕ → Standing → List X) (ss : List Standing) (i 
 
 pub one_waits : (i : ℕ) (s : Standing) → length (if_waiting i s) ≤ 1
 one_waits i Waiting = omega arith
-one_waits i (Bidding b) = omega arith
-one_waits i (Served h) = omega arith
-one_waits i Out = omega arith
+one_waits i _ = omega arith
 
 pub one-bids : (m : Meaning) (lanes i : ℕ) (s : Standing) → length (if_bidding m lanes i s) ≤ 1
-one-bids m lanes i Waiting = omega arith
 one-bids m lanes i (Bidding b) = omega arith
-one-bids m lanes i (Served h) = omega arith
-one-bids m lanes i Out = omega arith
+one-bids m lanes i _ = omega arith
+
+-- Who does not wait is not in line, and who does not bid is not in flight.
+pub none_waits : (i : ℕ) (s : Standing) → (s ≡ Waiting → ⊥) → if_waiting i s ≡ []
+none_waits i Waiting n = absurd (n refl)
+none_waits i _ n = refl
+
+pub none-bids : (m : Meaning) (lanes i : ℕ) (s : Standing) → ((b : Bid) → s ≡ Bidding b → ⊥) → if_bidding m lanes i s ≡ []
+none-bids m lanes i (Bidding b) n = absurd (n b refl)
+none-bids m lanes i _ n = refl
 
 -- ---- many steps
 

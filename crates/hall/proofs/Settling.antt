@@ -1,27 +1,30 @@
 -- A settled bid: the verdict, what carrying it out leaves in the tables, and the tally after.
-use Rattle.std.proofs.Common.{◌≡◌, ℕ, ◌^◌, ◌<◌, ◌≤◌, cond, leb, List, length, get_or, take, set, pos, Some, None, Ok, Option, sym, refl, ap, ◌∙◌, subst, arith}
+use Rattle.std.proofs.Common.{◌≡◌, ℕ, ◌^◌, ◌<◌, ◌≤◌, cond, leb, ◌≢◌, List, length, get_or, take, set, pos, Some, None, Ok, Option, sym, refl, ap, ◌∙◌, subst, arith}
 use lib.Signed.{lt_z}
-use Rattle.std.proofs.lemmas.List.{map-set, length-set, get_or-take, set-get_or}
-use Rattle.std.proofs.lemmas.Bool.{cond_both}
+use Rattle.std.proofs.lemmas.List.{map-set, length-set, get_or-take, set_comm, set-get_or}
+use Rattle.std.proofs.lemmas.Bool.{cond_both, both_ways}
 use Rattle.sources.specs.Meaning.{Meaning, row_of}
 use Rattle.auction.specs.declared.standing.Best.{Best}
 use Rattle.auction.specs.declared.standing.Bid.{Bid}
 use Rattle.auction.specs.declared.standing.Award.{Award}
+use Rattle.auction.specs.declared.standing.Counts.{Counts}
 use Rattle.auction.specs.declared.standing.Act.TheVariants.{Settle}
 use Rattle.auction.specs.declared.standing.Standing.{Standing}
 use Rattle.auction.specs.declared.standing.Standing.TheVariants.{Waiting, Bidding, Served, Out}
 use Rattle.auction.specs.declared.standing.Verdict.{Verdict}
 use Rattle.auction.specs.declared.standing.Verdict.TheVariants.{Out as GoesOut, Stale, Awarded}
-use Rattle.auction.specs.Tally.{holder_at, standing_at}
+use Rattle.auction.specs.Standings.{holds_job, BidSound, StandingSound}
+use Rattle.auction.specs.Tally.{holder_at, standing_at, is_holder}
 use Rattle.auction.specs.Bids.{offer, judged_best, judged, best_worth}
-use Rattle.auction.specs.Consistent.{Consistent, BidSound, StandingSound}
-use Rattle.auction.specs.Rules.{bid_at, taken, bids, called, freed, counted_out, counted_stale, counted_award, carried_out, verdict_in, verdict_from, ended, settle_answer, settle_tally}
-use Rattle.auction.proofs.Matching.{length-freed, holder_known}
+use Rattle.auction.specs.Consistent.{Consistent}
+use Rattle.auction.specs.Rules.{bid_at, taken, stands, bids, called, freed, carried_out, verdict_in, verdict_from, ended, settle_answer, settle_tally}
+use Rattle.auction.proofs.Matching.{holder_is, length-freed, holder_known}
 use Rattle.auction.proofs.Keeping.{ended_consistent, settle_stands}
 use Rattle.hall.specs.declared.books.Books.{Books}
 use Rattle.hall.specs.declared.books.Lot.{Lot}
 use Rattle.hall.specs.Kept.{Kept, tally_held, prices_of, holders_of}
 use Rattle.hall.specs.InBooks.{NotedOf, tally_in}
+use Rattle.hall.specs.Steps.{standing_ended, counts_ended}
 use Rattle.hall.proofs.Keeps.{kept_out, kept_by}
 use Rattle.hall.proofs.Tables.{same_tally, take_set_any, take-freed, consistent_in, few_places, standing_in, stands_in}
 use Rattle.hall.proofs.Calling.{bid_known, bid_given}
@@ -63,64 +66,89 @@ won jobs ceiling step r prices holders (Some x) a k e =
     (λ _ q. let z : ◌≡◌ {A = ℕ} 0 1 = cc in absurd (omega arith))
     e
 
--- ---- carried out, over the books
+-- ---- a bid that ends, over the books
 
-module _ (b : Books) (i : ℕ) (x : Bid) (v : Verdict) (known : i < b.noted.carriers) (bidding : standing_at (tally_in b) i ≡ Bidding x) (ruled : v ≡ verdict_in (tally_in b) x) where
+-- A carrier that is not freed and one that is: the order does not matter.
+freed_set : (ss : List Standing) (o : Option ℕ) (i : ℕ) (s : Standing) → ((k : ℕ) → o ≡ Some k → i ≢ k) → freed (set ss i s) o ≡ set (freed ss o) i s
+freed_set ss None i s other = refl
+freed_set ss (Some k) i s other = set_comm ss i k s Waiting (other k refl)
+
+module _ (b : Books) (i : ℕ) (x : Bid) (known : i < b.noted.carriers) (bidding : standing_at (tally_in b) i ≡ Bidding x) where
   abbrev worth : ℕ
   worth = best_worth x.best
 
   sound_bid : BidSound b.noted.jobs b.noted.ceiling x.runner_up x.best
   sound_bid = subst (StandingSound b.noted.jobs b.noted.ceiling) bidding ((consistent_in b).sound i)
 
-  consistent_after : (w : Verdict) → v ≡ w → Consistent b.noted.carriers b.noted.jobs b.noted.ceiling (carried_out i worth w (tally_in b))
-  consistent_after w e = subst (λ z. Consistent b.noted.carriers b.noted.jobs b.noted.ceiling (carried_out i worth z (tally_in b))) (sym ruled ∙ e)
-      (ended_consistent b.noted.carriers b.noted.jobs b.noted.ceiling (tally_in b) (consistent_in b) i known x bidding)
+  pub ends_sound : BidSound 256 (2 ^ 36) x.runner_up x.best
+  ends_sound = wider b.noted.jobs b.noted.ceiling 256 (2 ^ 36) x.runner_up x.best (consistent_in b).limits.few_jobs (consistent_in b).limits.low_ceiling sound_bid
 
-  pub out_keeps : v ≡ GoesOut → Kept b.noted b.step b.lanes b.lots (set b.standings i Out) (counted_out b.counts)
-  out_keeps e =
-      let k = kept_out b.kept in
-      kept_by (carried_out i worth GoesOut (tally_in b)) k.lots_long (length-set b.standings i Out ∙ k.standings_long)
-      (stands_in b i Out (counted_out b.counts)) (consistent_after GoesOut e)
+  module _ (v : Verdict) (judged-is : v ≡ judged b.step (prices_of b.lots) (holders_of b.lots) x) where
+    pub ends_ruled : v ≡ verdict_in (tally_in b) x
+    ends_ruled = judged-is ∙ judged_cut b.noted.jobs b.noted.ceiling b.step (prices_of b.lots) (holders_of b.lots) x sound_bid
 
-  pub stale_keeps : v ≡ Stale → Kept b.noted b.step b.lanes b.lots (set b.standings i Waiting) (counted_stale b.counts)
-  stale_keeps e =
-      let k = kept_out b.kept in
-      kept_by (carried_out i worth Stale (tally_in b)) k.lots_long (length-set b.standings i Waiting ∙ k.standings_long)
-      (stands_in b i Waiting (counted_stale b.counts)) (consistent_after Stale e)
+    ended_by : (w : Verdict) → v ≡ w → carried_out i worth w (tally_in b) ≡ ended i x (tally_in b)
+    ended_by w e = ap (λ z. carried_out i worth z (tally_in b)) (sym e ∙ ends_ruled)
 
-  module _ (a : Award) (e : v ≡ Awarded a) where
-    won_here : (a.job < b.noted.jobs) × (holder_at (tally_in b) a.job ≡ a.displaced)
-    won_here = won b.noted.jobs b.noted.ceiling b.step x.runner_up (take b.noted.jobs (prices_of b.lots)) (take b.noted.jobs (holders_of b.lots)) x.best a sound_bid (sym ruled ∙ e)
+    consistent_after : Consistent b.noted.carriers b.noted.jobs b.noted.ceiling (ended i x (tally_in b))
+    consistent_after = ended_consistent b.noted.carriers b.noted.jobs b.noted.ceiling (tally_in b) (consistent_in b) i known x bidding
 
-    pub job_known : a.job < 256
-    job_known = omega (arith, won_here.0, (consistent_in b).limits.few_jobs)
+    module _ (s : Standing) (n : Counts) (stood : s ≡ standing_ended worth v) (numbered : n ≡ counts_ended b.counts v) where
+      -- Nothing is awarded.
+      module _ (none : (a : Award) → v ≡ Awarded a → ⊥) where
+        pub none_in : tally_held b.noted b.step b.lanes b.lots (set b.standings i s) n ≡ ended i x (tally_in b)
+        none_in = stands_in b i s n ∙ each v refl
+          where
+            each : (w : Verdict) → v ≡ w → stands i s n (tally_in b) ≡ ended i x (tally_in b)
+            each (Awarded a) e = absurd (none a e)
+            each w e =
+                ap (λ z. stands i z n (tally_in b)) (stood ∙ ap (standing_ended worth) e)
+                ∙ ap (λ z. stands i (standing_ended worth w) z (tally_in b)) (numbered ∙ ap (counts_ended b.counts) e) ∙ ended_by w e
 
-    pub former_known : (k : ℕ) → a.displaced ≡ Some k → k < 128
-    former_known k q = few_places b k (holder_known b.noted.carriers b.noted.jobs b.noted.ceiling (tally_in b) (consistent_in b) a.job k (won_here.1 ∙ q))
+        pub none_keeps : Kept b.noted b.step b.lanes b.lots (set b.standings i s) n
+        none_keeps =
+            let k = kept_out b.kept in
+            kept_by (ended i x (tally_in b)) k.lots_long (length-set b.standings i s ∙ k.standings_long) none_in consistent_after
 
-    abbrev lot : Lot
-    lot = record { price = a.price; holder = Some i }
+      module _ (a : Award) (e : v ≡ Awarded a) where
+        won_here : (a.job < b.noted.jobs) × (holder_at (tally_in b) a.job ≡ a.displaced)
+        won_here = won b.noted.jobs b.noted.ceiling b.step x.runner_up (take b.noted.jobs (prices_of b.lots)) (take b.noted.jobs (holders_of b.lots)) x.best a sound_bid (sym ends_ruled ∙ e)
 
-    pub award_in : (ss : List Standing) (w : ℕ) → ss ≡ freed b.standings a.displaced → w ≡ worth →
-        tally_held b.noted b.step b.lanes (set b.lots a.job lot) (set ss i (Served (record { job = a.job; worth = w }))) (counted_award b.counts)
-        ≡ carried_out i worth (Awarded a) (tally_in b)
-    award_in ss w f q =
-        same_tally _ (carried_out i worth (Awarded a) (tally_in b)) refl refl
-        (ap (take b.noted.jobs) (map-set (λ l. l.price) b.lots a.job lot) ∙ take_set_any b.noted.jobs (prices_of b.lots) a.job a.price)
-        (ap (take b.noted.jobs) (map-set (λ l. l.holder) b.lots a.job lot) ∙ take_set_any b.noted.jobs (holders_of b.lots) a.job (Some i))
-        (ap (λ zs. take b.noted.carriers (set zs i (Served (record { job = a.job; worth = w })))) f
-        ∙ ap (λ n. take b.noted.carriers (set (freed b.standings a.displaced) i (Served (record { job = a.job; worth = n })))) q
-        ∙ take_set_any b.noted.carriers (freed b.standings a.displaced) i (Served (record { job = a.job; worth = worth }))
-        ∙ ap (λ zs. set zs i (Served (record { job = a.job; worth = worth }))) (take-freed b.noted.carriers b.standings a.displaced))
-        refl
+        pub job_known : a.job < 256
+        job_known = omega (arith, won_here.0, (consistent_in b).limits.few_jobs)
 
-    pub award_keeps : (ss : List Standing) (w : ℕ) → ss ≡ freed b.standings a.displaced → w ≡ worth →
-        Kept b.noted b.step b.lanes (set b.lots a.job lot) (set ss i (Served (record { job = a.job; worth = w }))) (counted_award b.counts)
-    award_keeps ss w f q =
-        let k = kept_out b.kept in
-        kept_by (carried_out i worth (Awarded a) (tally_in b)) (length-set b.lots a.job lot ∙ k.lots_long)
-        (length-set ss i (Served (record { job = a.job; worth = w })) ∙ ap length f ∙ length-freed b.standings a.displaced ∙ k.standings_long)
-        (award_in ss w f q) (consistent_after (Awarded a) e)
+        pub former_known : (k : ℕ) → a.displaced ≡ Some k → k < 128
+        former_known k q = few_places b k (holder_known b.noted.carriers b.noted.jobs b.noted.ceiling (tally_in b) (consistent_in b) a.job k (won_here.1 ∙ q))
+
+        -- Who bids holds no job.
+        former_other : (k : ℕ) → a.displaced ≡ Some k → i ≢ k
+        former_other k q p =
+            both_ways (is_holder i (holder_at (tally_in b) a.job)) ((consistent_in b).matched i a.job ∙ ap (holds_job a.job) bidding)
+            (holder_is i (holder_at (tally_in b) a.job) (won_here.1 ∙ q ∙ ap Some (sym p)))
+
+        abbrev lot : Lot
+        lot = record { price = a.price; holder = Some i }
+
+        abbrev mine : Standing
+        mine = Served (record { job = a.job; worth = worth })
+
+        pub award_in : (ss : List Standing) → ss ≡ freed (set b.standings i s) a.displaced →
+            tally_held b.noted b.step b.lanes (set b.lots a.job lot) ss n ≡ ended i x (tally_in b)
+        award_in ss f =
+            same_tally _ (carried_out i worth (Awarded a) (tally_in b)) refl refl
+            (ap (take b.noted.jobs) (map-set (λ l. l.price) b.lots a.job lot) ∙ take_set_any b.noted.jobs (prices_of b.lots) a.job a.price)
+            (ap (take b.noted.jobs) (map-set (λ l. l.holder) b.lots a.job lot) ∙ take_set_any b.noted.jobs (holders_of b.lots) a.job (Some i))
+            (ap (take b.noted.carriers)
+            (f ∙ ap (λ z. freed (set b.standings i z) a.displaced) (stood ∙ ap (standing_ended worth) e) ∙ freed_set b.standings a.displaced i mine former_other)
+            ∙ take_set_any b.noted.carriers (freed b.standings a.displaced) i mine
+            ∙ ap (λ zs. set zs i mine) (take-freed b.noted.carriers b.standings a.displaced))
+            (numbered ∙ ap (counts_ended b.counts) e) ∙ ended_by (Awarded a) e
+
+        pub award_keeps : (ss : List Standing) → ss ≡ freed (set b.standings i s) a.displaced → Kept b.noted b.step b.lanes (set b.lots a.job lot) ss n
+        award_keeps ss f =
+            let k = kept_out b.kept in
+            kept_by (ended i x (tally_in b)) (length-set b.lots a.job lot ∙ k.lots_long)
+            (ap length f ∙ length-freed (set b.standings i s) a.displaced ∙ length-set b.standings i s ∙ k.standings_long) (award_in ss f) consistent_after
 
 -- ---- settle, whole
 
@@ -145,23 +173,8 @@ module _ (m : Meaning) (i : ℕ) (x : Bid) (old new : Books) (noted : NotedOf m 
   pub settles_bidding : standing_at (tally_in new) i ≡ Bidding x
   settles_bidding = ap (λ t. standing_at t i) found ∙ stood
 
-  sound_there : BidSound new.noted.jobs new.noted.ceiling x.runner_up x.best
-  sound_there = subst (StandingSound new.noted.jobs new.noted.ceiling) settles_bidding ((consistent_in new).sound i)
+  pub settled_answer : (v : Verdict) → v ≡ verdict_in (tally_in new) x → Ok v ≡ settle_answer i m (Some (tally_in old))
+  settled_answer v e = ap Ok (e ∙ ap (λ t. verdict_in t x) found) ∙ ap (verdict_from (tally_in old)) answer
 
-  pub settles_sound : BidSound 256 (2 ^ 36) x.runner_up x.best
-  settles_sound = wider new.noted.jobs new.noted.ceiling 256 (2 ^ 36) x.runner_up x.best (consistent_in new).limits.few_jobs (consistent_in new).limits.low_ceiling sound_there
-
-  module _ (v : Verdict) (judged-is : v ≡ judged new.step (prices_of new.lots) (holders_of new.lots) x) where
-    pub settles_ruled : v ≡ verdict_in (tally_in new) x
-    settles_ruled = judged-is ∙ judged_cut new.noted.jobs new.noted.ceiling new.step (prices_of new.lots) (holders_of new.lots) x sound_there
-
-    ruled_in : v ≡ verdict_in (tally_in old) x
-    ruled_in = settles_ruled ∙ ap (λ t. verdict_in t x) found
-
-    pub settled_answer : Ok v ≡ settle_answer i m (Some (tally_in old))
-    settled_answer = ap Ok ruled_in ∙ ap (verdict_from (tally_in old)) answer
-
-    pub settled_tally : (last : Books) → tally_in last ≡ carried_out i (best_worth x.best) v (tally_in new) → Some (tally_in last) ≡ settle_tally i m (Some (tally_in old))
-    settled_tally last e =
-        ap Some (e ∙ ap (carried_out i (best_worth x.best) v) found ∙ ap (λ w. carried_out i (best_worth x.best) w (tally_in old)) ruled_in)
-        ∙ ap (λ r. Some (taken r (ended i) (tally_in old))) answer
+  pub settled_tally : (last : Books) → tally_in last ≡ ended i x (tally_in new) → Some (tally_in last) ≡ settle_tally i m (Some (tally_in old))
+  settled_tally last e = ap Some (e ∙ ap (ended i x) found) ∙ ap (λ r. Some (taken r (ended i) (tally_in old))) answer

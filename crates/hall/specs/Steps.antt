@@ -6,8 +6,10 @@ use Rattle.auction.specs.declared.standing.Bid.{Bid}
 use Rattle.auction.specs.declared.standing.Act.{Act}
 use Rattle.auction.specs.declared.standing.Counts.{Counts}
 use Rattle.auction.specs.declared.standing.Standing.{Standing}
-use Rattle.auction.specs.declared.standing.Standing.TheVariants.{Bidding}
-use Rattle.auction.specs.Rules.{counted}
+use Rattle.auction.specs.declared.standing.Standing.TheVariants.{Waiting, Bidding, Served, Out}
+use Rattle.auction.specs.declared.standing.Verdict.{Verdict}
+use Rattle.auction.specs.declared.standing.Verdict.TheVariants.{Out as GoesOut, Stale, Awarded}
+use Rattle.auction.specs.Rules.{counted, counted_out, counted_stale, counted_award}
 use Rattle.hall.specs.declared.books.Books.{Books}
 use Rattle.hall.specs.declared.books.Lot.{Lot}
 use Rattle.hall.specs.Kept.{unsold}
@@ -23,3 +25,14 @@ standing_after s (Err e) = s
 abbrev pub counts_after : Act → Counts → Result Bid Refusal → Counts
 counts_after act n (Ok b) = counted act n
 counts_after act n (Err e) = n
+
+-- What the end of a bid makes of the carrier's standing; worth is what the best job is worth to it.
+abbrev pub standing_ended : ℕ → Verdict → Standing
+standing_ended worth GoesOut = Out
+standing_ended worth Stale = Waiting
+standing_ended worth (Awarded a) = Served (record { job = a.job; worth = worth })
+
+abbrev pub counts_ended : Counts → Verdict → Counts
+counts_ended n GoesOut = counted_out n
+counts_ended n Stale = counted_stale n
+counts_ended n (Awarded a) = counted_award n

@@ -24,13 +24,14 @@ use Rattle.auction.specs.declared.standing.Standing.{Standing}
 use Rattle.auction.specs.declared.standing.Standing.TheVariants.{Out}
 use Rattle.auction.specs.declared.standing.Verdict.{Verdict}
 use Rattle.auction.specs.declared.standing.Verdict.TheVariants.{Out as GoesOut, Stale, Awarded}
+use Rattle.auction.specs.Standings.{ServedOrOut, job_served}
 use Rattle.auction.specs.Tally.{Tally, standing_at}
 use Rattle.auction.specs.Bids.{best_worth}
 use Rattle.auction.specs.Rules.{between, bid_at, bids, carried_out, ended, opened, start_answer, start_tally_by, taken, verdict_in}
 use Rattle.auction.specs.declared.standing.Act.TheVariants.{Settle}
 use Rattle.auction.specs.Runs.{beginning, ran}
 use Rattle.auction.specs.Calls.{accepted, answer_to, counts_answer, standing_answer, tally_after, tally_by, tally_from, told}
-use Rattle.auction.specs.Laws.{AuctionLaws, ServedOrOut, job_served}
+use Rattle.auction.specs.Laws.{AuctionLaws}
 use Rattle.auction.proofs.Steps.{steps_hold}
 use Rattle.auction.proofs.Reaching.{reached_laws}
 use Rattle.hall.specs.declared.books.Books.{Books}

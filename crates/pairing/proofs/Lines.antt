@@ -3,11 +3,12 @@ use Rattle.std.proofs.Common.{◌≡◌, ℕ, suc, ◌+◌, ◌/◌, ◌<◌, Li
 use Rattle.std.specs.List.{sum_by}
 use Rattle.std.proofs.lemmas.List.Sums.{sum_by-cons}
 use Rattle.std.proofs.lemmas.List.{append_assoc, append-nil, length-take-le, take_more}
-use Rattle.std.proofs.Math.Nat.{mul-div_cancel}
+use Rattle.std.proofs.Math.Nat.{mul-div_cancel, zero-div}
 use Rattle.sources.specs.Meaning.{Meaning, row_of, worth_of}
 use Rattle.auction.specs.declared.standing.Standing.{Standing}
-use Rattle.auction.specs.declared.standing.Standing.TheVariants.{Waiting, Bidding, Served, Out}
-use Rattle.auction.specs.Laws.{given_worth, job_served, worth_along}
+use Rattle.auction.specs.declared.standing.Standing.TheVariants.{Served, Out}
+use Rattle.auction.specs.Standings.{job_served}
+use Rattle.auction.specs.Laws.{given_worth, worth_along}
 use Rattle.pairing.specs.Listing.{carrier_line, carrier_lines}
 use Rattle.pairing.specs.Held.{HeldUnderTimes, worth_told}
 
@@ -40,11 +41,9 @@ given_none (Some j) = refl
 
 -- what a served carrier is told, divided again, is what its job is worth to it on the sheet
 pub told_is : (m : Meaning) (ss : List Standing) → HeldUnderTimes m ss → (i : ℕ) (s : Standing) → get_or ss i Out ≡ s → worth_told (length ss + 1) s ≡ given_worth (row_of m i) (job_served s)
-told_is m ss timed i Waiting at = refl
-told_is m ss timed i (Bidding b) at = refl
 told_is m ss timed i (Served h) at =
     ap (λ w. w / (length ss + 1)) (timed i h at) ∙ mul-div_cancel (worth_of m i h.job) {n = length ss + 1} (omega arith)
-told_is m ss timed i Out at = refl
+told_is m ss timed i _ at = zero-div (length ss + 1)
 
 -- what all carriers are told comes to what the pairing is worth
 pub along_all : (told : Standing → ℕ) (rows : List (List (ℕ × ℕ))) (ss : List Standing) → ((k : ℕ) → k < length ss → told (get_or ss k Out) ≡ given_worth (get_or rows k []) (job_served (get_or ss k Out))) →

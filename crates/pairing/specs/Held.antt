@@ -3,7 +3,8 @@ use Rattle.std.specs.Prelude.{◌≡◌, ℕ, ◌+◌, ◌*◌, ◌/◌, List, l
 use Rattle.sources.specs.Meaning.{Meaning, worth_of}
 use Rattle.auction.specs.declared.standing.Held.{Held}
 use Rattle.auction.specs.declared.standing.Standing.{Standing}
-use Rattle.auction.specs.declared.standing.Standing.TheVariants.{Waiting, Bidding, Served, Out}
+use Rattle.auction.specs.declared.standing.Standing.TheVariants.{Served, Out}
+use Rattle.auction.specs.Standings.{worth_served}
 
 -- A served carrier is told (carriers + 1) times what its job is worth to it on the sheet.
 abbrev pub HeldUnderTimes : Meaning → List Standing → Type 0
@@ -11,7 +12,4 @@ HeldUnderTimes m ss = (i : ℕ) (h : Held) → slice_index_or ss i Out ≡ Serve
 
 -- That worth, divided again; 0 where none is told.
 abbrev pub worth_told : ℕ → Standing → ℕ
-worth_told factor Waiting = 0
-worth_told factor (Bidding b) = 0
-worth_told factor (Served h) = h.worth / factor
-worth_told factor Out = 0
+worth_told factor s = worth_served s / factor

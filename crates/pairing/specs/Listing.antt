@@ -6,7 +6,8 @@ use Rattle.sources.specs.Meaning.{Meaning, worth_of}
 use Rattle.auction.specs.declared.standing.Counts.{Counts}
 use Rattle.auction.specs.declared.standing.Standing.{Standing}
 use Rattle.auction.specs.declared.standing.Standing.TheVariants.{Waiting, Bidding, Served, Out}
-use Rattle.auction.specs.Laws.{job_served, worth}
+use Rattle.auction.specs.Standings.{job_served}
+use Rattle.auction.specs.Laws.{worth}
 
 -- Byte 10 ends each line.
 abbrev pub newline : List ℕ

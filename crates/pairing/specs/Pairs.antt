@@ -16,9 +16,10 @@ use Rattle.auction.specs.declared.call.Call.{Call}
 use Rattle.auction.specs.declared.call.Call.TheVariants.{Start, Run}
 use Rattle.auction.specs.declared.standing.Counts.{Counts}
 use Rattle.auction.specs.declared.standing.Standing.{Standing}
+use Rattle.auction.specs.Standings.{ServedOrOut}
 use Rattle.auction.specs.Tally.{Tally}
 use Rattle.auction.specs.Calls.{tally_after}
-use Rattle.auction.specs.Laws.{Among, Pairing, ServedOrOut, pairing_of, worth}
+use Rattle.auction.specs.Laws.{Among, Pairing, pairing_of, worth}
 use Rattle.pairing.specs.Listing.{listing, refused_line}
 
 -- Step 1 and lanes 8; depth 8 and budget 1,000,000.

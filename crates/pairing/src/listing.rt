@@ -1,7 +1,8 @@
 //! The listing of standings and counts, put piece by piece.
 ghost use Rattle.std.specs.Prelude.{◌≡◌, ◌+◌, ◌*◌, ◌/◌, ◌≤◌, map, length, slice_index_or};
 ghost use Rattle.numbers.specs.Writing.{over};
-ghost use Rattle.auction.specs.Laws.{job_served, worth};
+ghost use Rattle.auction.specs.Standings.{job_served};
+ghost use Rattle.auction.specs.Laws.{worth};
 ghost use Rattle.outputs.specs.Puts.{Puts};
 ghost use Rattle.pairing.specs.Listing.{carrier_line, carrier_lines, last_line, listing as listing_of, standing_text};
 ghost use Rattle.pairing.specs.Held.{HeldUnderTimes, worth_told};

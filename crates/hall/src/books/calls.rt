@@ -4,14 +4,15 @@ ghost use Rattle.std.specs.Prelude.{◌≡◌, ℕ, ◌^◌, ◌<◌, ◌≤◌,
 ghost use Rattle.std.specs.Result.{result_map_both};
 ghost use Rattle.sources.specs.Meaning.{Meaning, row_of};
 ghost use Rattle.auction.specs.Bids.{looked_on, judged, best_worth};
-ghost use Rattle.auction.specs.Consistent.{Limits, BidSound};
+ghost use Rattle.auction.specs.Consistent.{Limits};
 ghost use Rattle.auction.specs.Looks.{Looks};
-ghost use Rattle.auction.specs.Rules.{opened, start_answer, start_tally, bid_after, bid_at, called, summon_answer, summon_tally, look_answer, look_tally, freed, verdict_in, carried_out, settle_answer, settle_tally};
+ghost use Rattle.auction.specs.Rules.{opened, start_answer, start_tally, bid_after, bid_at, called, summon_answer, summon_tally, look_answer, look_tally, freed, verdict_in, ended, settle_answer, settle_tally};
+ghost use Rattle.auction.specs.Standings.{BidSound};
 ghost use Rattle.auction.specs.Tally.{standing_at};
 ghost use Rattle.hall.specs.Kept.{prices_of, holders_of};
 ghost use Rattle.hall.specs.InBooks.{NotedOf, tally_in};
 ghost use Rattle.hall.specs.Ruled.{Ruled};
-ghost use Rattle.hall.specs.Steps.{counts_after, standing_after};
+ghost use Rattle.hall.specs.Steps.{counts_after, standing_after, counts_ended, standing_ended};
 
 use super::glance::Glance;
 use super::{Books, Lot};
@@ -131,8 +132,12 @@ fn respond<S: Source>(
             }
             Ok(*bid)
         }
-        (_, Act::Summon) => Err(Refusal::NotWaiting),
-        (_, _) => Err(Refusal::NoOpenBid),
+        (Standing::Bidding(_) | Standing::Served(_) | Standing::Out, Act::Summon) => {
+            Err(Refusal::NotWaiting)
+        }
+        (Standing::Waiting | Standing::Served(_) | Standing::Out, Act::Look | Act::Settle) => {
+            Err(Refusal::NoOpenBid)
+        }
     }
 }
 
@@ -158,6 +163,44 @@ fn judge(step: u64, lots: &[Lot; MOST_JOBS], bid: Bid) -> Verdict
         price,
         displaced: lot.holder,
     })
+}
+
+// Ends a carrier's bid. Its standing alone is lent to be changed.
+fn conclude(
+    step: u64,
+    lots: &[Lot; MOST_JOBS],
+    bid: Bid,
+    standing: &mut Standing,
+    counts: &mut Counts,
+) -> Verdict
+    requires low_step { step ≤ 2 ^ 36 }
+    requires sound { BidSound 256 (2 ^ 36) bid.runner_up bid.best }
+    requires few_awards { counts.old.awards ≤ 2 ^ 52 }
+    requires few_stales { counts.old.stales ≤ 2 ^ 52 }
+    requires few_outs { counts.old.outs ≤ 2 ^ 52 }
+    ensures answered { result ≡ judged step (prices_of lots.now) (holders_of lots.now) bid }
+    ensures stood { standing.new ≡ standing_ended (best_worth bid.best) result }
+    ensures numbered { counts.new ≡ counts_ended counts.old result }
+{
+    let verdict = judge(step, lots, bid);
+    match verdict {
+        Verdict::Out => {
+            *standing = Standing::Out;
+            counts.outs += 1;
+        }
+        Verdict::Stale => {
+            *standing = Standing::Waiting;
+            counts.stales += 1;
+        }
+        Verdict::Awarded(award) => {
+            *standing = Standing::Served(Held {
+                job: award.job,
+                worth: best_worth(bid),
+            });
+            counts.awards += 1;
+        }
+    }
+    verdict
 }
 
 // A carrier that lost its job waits.
@@ -234,36 +277,29 @@ impl Books {
         Ok(())
     }
 
-    // Carries out the verdict on a carrier's bid.
-    fn carry_out(&mut self, carrier: usize, bid: Bid, verdict: Verdict)
+    // Ends the bid of a carrier, whose standing is lent to be changed; of the others it changes only that of who loses a job.
+    fn end(&mut self, carrier: usize, bid: Bid) -> Verdict
         requires known { carrier < self.old.noted.carriers }
         requires bidding { standing_at (tally_in self.old) carrier ≡ Standing.Bidding bid }
-        requires ruled { verdict ≡ verdict_in (tally_in self.old) bid }
         ensures noted { self.new.noted ≡ self.old.noted }
-        ensures tallied { tally_in self.new ≡ carried_out carrier (best_worth bid.best) verdict (tally_in self.old) }
+        ensures answered { result ≡ verdict_in (tally_in self.old) bid }
+        ensures tallied { tally_in self.new ≡ ended carrier bid (tally_in self.old) }
     {
-        match verdict {
-            Verdict::Out => {
-                self.standings[carrier] = Standing::Out;
-                self.counts.outs += 1;
-            }
-            Verdict::Stale => {
-                self.standings[carrier] = Standing::Waiting;
-                self.counts.stales += 1;
-            }
-            Verdict::Awarded(award) => {
-                free(&mut self.standings, award.displaced);
-                self.lots[award.job] = Lot {
-                    price: award.price,
-                    holder: Some(carrier),
-                };
-                self.standings[carrier] = Standing::Served(Held {
-                    job: award.job,
-                    worth: best_worth(bid),
-                });
-                self.counts.awards += 1;
-            }
+        let verdict = conclude(
+            self.step,
+            &self.lots,
+            bid,
+            &mut self.standings[carrier],
+            &mut self.counts,
+        );
+        if let Verdict::Awarded(award) = verdict {
+            self.lots[award.job] = Lot {
+                price: award.price,
+                holder: Some(carrier),
+            };
+            free(&mut self.standings, award.displaced);
         }
+        verdict
     }
 
     #[inline(always)]
@@ -277,8 +313,6 @@ impl Books {
         ensures ruled { Ruled (settle_answer carrier) (settle_tally carrier) (S.meaning source.now) (Some self.old) (Some self.new) result }
     {
         let bid = self.call_on(source, carrier, Act::Settle)?;
-        let verdict = judge(self.step, &self.lots, bid);
-        self.carry_out(carrier, bid, verdict);
-        Ok(verdict)
+        Ok(self.end(carrier, bid))
     }
 }

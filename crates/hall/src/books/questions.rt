@@ -1,7 +1,8 @@
 //! The questions. They tell what the tally holds.
 ghost use Rattle.std.specs.Prelude.{◌≡◌, ◌^◌, ◌<◌, Some, sum_by};
 ghost use Rattle.sources.specs.Meaning.{Meaning};
-ghost use Rattle.auction.specs.Tally.{total_worth, worth_served};
+ghost use Rattle.auction.specs.Standings.{worth_served};
+ghost use Rattle.auction.specs.Tally.{total_worth};
 ghost use Rattle.auction.specs.Calls.{price_answer, holder_answer, standing_answer};
 ghost use Rattle.hall.specs.InBooks.{NotedOf, tally_in};
 ghost use Rattle.hall.specs.Steps.{lot_answer};

@@ -2,7 +2,7 @@
 ghost use Rattle.std.specs.Prelude.{◌≡◌, ◌<◌, ◌&&◌, [], ◌∷◌, ◌++◌, length, is_some, if◌then◌else◌, ◌==◌, nat_lt};
 ghost use Rattle.std.specs.Option.{option_to_list};
 ghost use Rattle.rings.specs.Held.{held, room};
-ghost use Rattle.auction.specs.Runs.{in_flight};
+ghost use Rattle.auction.specs.Standings.{in_flight};
 
 use auction::standing::{Ending, InFlight};
 use rings::Ring;

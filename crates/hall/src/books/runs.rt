@@ -1,7 +1,8 @@
 //! Run, on books and the source that they were started for.
 ghost use Rattle.std.specs.Prelude.{◌≡◌, ◌+◌, ◌<◌, ◌≤◌, true, [], ◌∷◌, length, Some, IfOk};
 ghost use Rattle.rings.specs.Held.{held};
-ghost use Rattle.auction.specs.Runs.{looks_for, since, beginning, waits_after, first_acts, step_by, one_step, many_steps, Reports, run_answer, run_tally};
+ghost use Rattle.auction.specs.Standings.{looks_for};
+ghost use Rattle.auction.specs.Runs.{since, beginning, waits_after, first_acts, step_by, one_step, many_steps, Reports, run_answer, run_tally};
 ghost use Rattle.auction.specs.InOrder.{Ordered, Grown};
 ghost use Rattle.hall.specs.InBooks.{NotedOf, tally_in};
 ghost use Rattle.hall.specs.Ruled.{Ruled};
@@ -114,7 +115,7 @@ impl Books {
                     let entries = row_length(source, carrier).saturating_sub(bid.looked);
                     queues.join_flight(carrier, looks_for(self.lanes, entries));
                 }
-                Standing::Served(_) | Standing::Out => {}
+                _ => {}
             }
         }
     }

@@ -1,12 +1,13 @@
-use Rattle.std.proofs.Common.{◌-◌, [], ◌∷◌, ◌++◌, length, take, inl, inr, sym, ap, ◌∙◌, arith}
+use Rattle.std.proofs.Common.{◌-◌, [], ◌∷◌, ◌++◌, length, get_or, take, sym, refl, ap, ◌∙◌, arith}
 use Rattle.std.proofs.lemmas.List.{append-nil, take_all}
 use Rattle.rings.specs.Held.{held}
-use Rattle.auction.specs.declared.standing.Standing.TheVariants.{Waiting, Bidding, Served, Out}
-use Rattle.auction.specs.Runs.{in_flight, looks_for, gathered, if_waiting, if_bidding}
+use Rattle.auction.specs.declared.standing.Standing.TheVariants.{Waiting, Bidding}
+use Rattle.auction.specs.Standings.{if_waiting, in_flight, looks_for, if_bidding}
+use Rattle.auction.specs.Runs.{gathered}
 use Rattle.hall.proofs.Tables.{consistent_in}
-use Rattle.hall.proofs.RunSteps.{few_entries, few_standings, gathered_few, gathered_on, one_waits, one-bids, same_start}
+use Rattle.hall.proofs.RunSteps.{few_entries, few_standings, gathered_few, gathered_on, one_waits, one-bids, none_waits, none-bids, same_start}
 use Rattle.hall.proofs.books.Books.begin.Goals as goal
-use Rattle.hall.proofs.books.Books.begin.Goals.{in-Waiting, in-Bidding, in-Served}
+use Rattle.hall.proofs.books.Books.begin.Goals.{in-Waiting, in-Bidding, in_default}
 
 pub join_line-requires : goal.join_line-requires
 join_line-requires g c =
@@ -58,13 +59,14 @@ loop-carrier-preserved g c =
             ∙ ap (λ z. held q.flight ++ in_flight i z ∷ [])
             (w.looks_for.ensures ∙ ap (looks_for b.lanes) (w.saturating_sub-entries.ensures ∙ ap (λ z. z - w.in-Bidding.bid.looked) w.row_length.ensures)));
       }
-      | in-Served w ↦
-          let waits = ap (λ z. held z.line) w.queues-is ∙ sym (append-nil _) in
-          let flies = ap (λ z. held z.flight) w.queues-is ∙ sym (append-nil _) in
-          elim w.in-Served.is [
-            | inl (h, e) ↦ record { waits = gathered_on if_waiting ss i l (Served h) _ _ e inv.waits waits; bids = gathered_on bids ss i l (Served h) _ _ e inv.bids flies }
-            | inr e ↦ record { waits = gathered_on if_waiting ss i l Out _ _ e inv.waits waits; bids = gathered_on bids ss i l Out _ _ e inv.bids flies }
-          ]
+      | in_default w ↦
+          let s = get_or ss i Waiting in
+          let none = ap (λ zs. held q.line ++ zs) (sym (none_waits i s w.in_default.not-Waiting)) in
+          let idle = ap (λ zs. held q.flight ++ zs) (sym (none-bids m b.lanes i s w.in_default.not-Bidding)) in
+          record {
+            waits = gathered_on if_waiting ss i l s _ _ refl inv.waits (ap (λ z. held z.line) w.queues-is ∙ sym (append-nil _) ∙ none);
+            bids = gathered_on bids ss i l s _ _ refl inv.bids (ap (λ z. held z.flight) w.queues-is ∙ sym (append-nil _) ∙ idle);
+          }
     ]
 
 pub returns : goal.returns

@@ -1,6 +1,7 @@
 use Rattle.std.proofs.Common.{◌≡◌, take}
 use Rattle.rings.specs.Held.{held}
-use Rattle.auction.specs.Runs.{gathered, if_waiting, if_bidding}
+use Rattle.auction.specs.Standings.{if_waiting, if_bidding}
+use Rattle.auction.specs.Runs.{gathered}
 use Rattle.hall.proofs.books.Books.begin.Given as goal
 
 -- The carriers met so far are in line or in flight.

@@ -1,6 +1,7 @@
 use Rattle.std.proofs.Common.{length, ap, arith}
 use Rattle.std.proofs.lemmas.List.{length-append}
-use Rattle.auction.specs.Laws.{job_served, worth}
+use Rattle.auction.specs.Standings.{job_served}
+use Rattle.auction.specs.Laws.{worth}
 use Rattle.outputs.proofs.Puts.{puts_then}
 use Rattle.pairing.specs.Listing.{carrier_lines, last_line}
 use Rattle.pairing.proofs.Texts.{puts_over}
