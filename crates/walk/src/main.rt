@@ -4,25 +4,10 @@
 use anyhow::anyhow;
 use auction::call::Call;
 use hall::hall::Hall;
-use sources::form::{Entry, Heading};
 use sources::sheet::Sheet;
 use sources::source::Source;
 use std::io;
-
-// What each of three jobs is worth to each of three carriers. Written out: no library crate is for examples.
-const WORTHS: [Entry; 9] = [
-    Entry { job: 0, worth: 5 },
-    Entry { job: 1, worth: 10 },
-    Entry { job: 2, worth: 1 },
-    Entry { job: 0, worth: 4 },
-    Entry { job: 1, worth: 11 },
-    Entry { job: 2, worth: 3 },
-    Entry { job: 0, worth: 5 },
-    Entry { job: 1, worth: 14 },
-    Entry { job: 2, worth: 8 },
-];
-
-const STARTS: [usize; 4] = [0, 3, 6, 9];
+use three_by_three::{ENTRIES, HEADING, STARTS};
 
 // How an auction starts here.
 const START: Call = Call::Start { step: 1, lanes: 4 };
@@ -77,13 +62,8 @@ fn walk_together<S: Source>(rt: &impl Print, hall: &mut Hall<S>) -> io::Result<(
 }
 
 fn main(rt: HostRuntime) -> anyhow::Result<()> {
-    let heading = Heading {
-        carriers: 3,
-        jobs: 3,
-        ceiling: 14,
-    };
     let mut sheet = Sheet::new();
-    if let Err(refusal) = sheet.fill(heading, &STARTS, &WORTHS) {
+    if let Err(refusal) = sheet.fill(HEADING, &STARTS, &ENTRIES) {
         println!(rt; "refused {refusal}")?;
         return Err(anyhow!("the sheet was refused"));
     }

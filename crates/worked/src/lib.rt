@@ -11,6 +11,7 @@ use numbers::read_number;
 use refusals::Fault;
 use sheetfile::whole::load;
 use sources::form::{Entry, Heading};
+use three_by_three::FILE;
 
 /// What is read of the worked bytes of numbers.
 pub struct NumberCases {
@@ -39,23 +40,17 @@ pub struct SheetCases {
     pub one_carrier_more: Result<Heading, Fault>,
 }
 
-/// Loads the worked sheet, and the same with one carrier more. Written out: no library crate is for examples.
+/// Loads the worked sheet, and the same with one carrier more.
 pub fn sheet_cases() -> SheetCases
     ensures value { result ≡ sheet_cases }
     ensures worked { WorkedSheet }
 {
     let mut starts = [0usize; 5];
     let mut entries = [Entry { job: 0, worth: 0 }; 9];
-    let whole = load(
-        b"\x03\x03\x0e\x03\x00\x05\x01\x0a\x02\x01\x03\x00\x04\x01\x0b\x02\x03\x03\x00\x05\x01\x0e\x02\x08\x09",
-        &mut starts,
-        &mut entries,
-    );
-    let one_carrier_more = load(
-        b"\x04\x03\x0e\x03\x00\x05\x01\x0a\x02\x01\x03\x00\x04\x01\x0b\x02\x03\x03\x00\x05\x01\x0e\x02\x08\x09",
-        &mut starts,
-        &mut entries,
-    );
+    let whole = load(&FILE, &mut starts, &mut entries);
+    let mut more = FILE;
+    more[0] = 4;
+    let one_carrier_more = load(&more, &mut starts, &mut entries);
     SheetCases {
         whole,
         one_carrier_more,

@@ -10,6 +10,14 @@ use hall::replay::replay;
 use refusals::Refusal;
 use sources::form::{Entry, Heading};
 use sources::sheet::Sheet;
+use three_by_three::{ENTRIES, HEADING, STARTS};
+
+// A call that runs.
+fn run(depth: usize, budget: u64) -> Call
+    ensures { result ≡ Call.Run depth budget }
+{
+    Call::Run { depth, budget }
+}
 
 // Performs the calls on a new hall over the sheet of these tables, and gives the answers.
 fn play<const N: usize>(
@@ -28,27 +36,11 @@ fn play<const N: usize>(
     answers
 }
 
-// Rows 5 10 1, 4 11 3 and 5 14 8. Written out: no library crate is for examples.
+// The same, on the auction of three carriers and three jobs.
 fn play_table<const N: usize>(calls: [Call; N]) -> [Result<Answer, Refusal>; N]
     ensures { result ≡ answers_from three_by_three None calls.entry }
 {
-    let heading = Heading {
-        carriers: 3,
-        jobs: 3,
-        ceiling: 14,
-    };
-    let entries = [
-        Entry { job: 0, worth: 5 },
-        Entry { job: 1, worth: 10 },
-        Entry { job: 2, worth: 1 },
-        Entry { job: 0, worth: 4 },
-        Entry { job: 1, worth: 11 },
-        Entry { job: 2, worth: 3 },
-        Entry { job: 0, worth: 5 },
-        Entry { job: 1, worth: 14 },
-        Entry { job: 2, worth: 8 },
-    ];
-    play(heading, &[0, 3, 6, 9], &entries, calls)
+    play(HEADING, &STARTS, &ENTRIES, calls)
 }
 
 /// Depth 1: one carrier bids at a time.
@@ -60,31 +52,19 @@ pub fn one_by_one() -> [Result<Answer, Refusal>; 19]
     let start = Call::Start { step: 1, lanes: 4 };
     let calls = [
         start,
-        Call::Run {
-            depth: 1,
-            budget: 3,
-        },
+        run(1, 3),
         Call::HolderOf(1),
         Call::PriceOf(1),
         start,
-        Call::Run {
-            depth: 1,
-            budget: 6,
-        },
+        run(1, 6),
         Call::HolderOf(1),
         Call::PriceOf(1),
         start,
-        Call::Run {
-            depth: 1,
-            budget: 9,
-        },
+        run(1, 9),
         Call::HolderOf(2),
         Call::PriceOf(2),
         start,
-        Call::Run {
-            depth: 1,
-            budget: 100,
-        },
+        run(1, 100),
         Call::HolderOf(0),
         Call::PriceOf(0),
         Call::HolderOf(1),
@@ -104,23 +84,14 @@ pub fn three_in_flight() -> [Result<Answer, Refusal>; 16]
     let start = Call::Start { step: 1, lanes: 4 };
     let calls = [
         start,
-        Call::Run {
-            depth: 3,
-            budget: 6,
-        },
+        run(3, 6),
         Call::StandingOf(2),
         start,
-        Call::Run {
-            depth: 3,
-            budget: 10,
-        },
+        run(3, 10),
         Call::PriceOf(1),
         Call::StandingOf(2),
         start,
-        Call::Run {
-            depth: 3,
-            budget: 100,
-        },
+        run(3, 100),
         Call::HolderOf(0),
         Call::HolderOf(1),
         Call::HolderOf(2),
@@ -146,21 +117,12 @@ fn one_job(worth: u64) -> [Result<Answer, Refusal>; 10]
     let entries = [Entry { job: 0, worth: 5 }, Entry { job: 0, worth }];
     let calls = [
         Call::Start { step: 1, lanes: 4 },
-        Call::Run {
-            depth: 1,
-            budget: 3,
-        },
+        run(1, 3),
         Call::HolderOf(0),
         Call::PriceOf(0),
-        Call::Run {
-            depth: 1,
-            budget: 2,
-        },
+        run(1, 2),
         Call::StandingOf(1),
-        Call::Run {
-            depth: 1,
-            budget: 100,
-        },
+        run(1, 100),
         Call::StandingOf(1),
         Call::HolderOf(0),
         Call::PriceOf(0),
@@ -209,10 +171,7 @@ pub fn smaller_job() -> [Result<Answer, Refusal>; 5]
     let entries = [Entry { job: 0, worth: 9 }, Entry { job: 1, worth: 9 }];
     let calls = [
         Call::Start { step: 1, lanes: 4 },
-        Call::Run {
-            depth: 1,
-            budget: 100,
-        },
+        run(1, 100),
         Call::HolderOf(0),
         Call::PriceOf(0),
         Call::HolderOf(1),
@@ -240,10 +199,7 @@ pub fn wide_step() -> [Result<Answer, Refusal>; 7]
     ];
     let calls = [
         Call::Start { step: 10, lanes: 4 },
-        Call::Run {
-            depth: 1,
-            budget: 100,
-        },
+        run(1, 100),
         Call::PriceOf(0),
         Call::PriceOf(1),
         Call::HolderOf(0),
