@@ -8,64 +8,6 @@ use sources::form::{Entry, Heading};
 use sources::sheet::Sheet;
 use std::test::Fail;
 
-#[test]
-fn one_carrier_after_the_other(rt: HostRuntime) -> Result<(), Fail> {
-    let mut hall = table_hall();
-    hall.start(1, 4)?;
-    assert_eq!(rt; bid(&mut hall, 0), won(1, 6, None));
-    assert_eq!(rt; bid(&mut hall, 1), won(1, 8, Some(0)));
-    assert_eq!(rt; bid(&mut hall, 2), won(2, 3, None));
-    assert_eq!(rt; bid(&mut hall, 0), won(0, 4, None));
-    assert_eq!(rt; hall.summon(1), Err(Refusal::NotWaiting));
-    Ok(())
-}
-
-// A bid of 7 against a price of 8 is stale, and the carrier waits again.
-#[test]
-fn bids_in_between(rt: HostRuntime) -> Result<(), Fail> {
-    let mut hall = table_hall();
-    hall.start(1, 4)?;
-    for carrier in 0..3 {
-        hall.summon(carrier)?;
-    }
-    for carrier in 0..3 {
-        hall.look(carrier)?;
-    }
-    assert_eq!(rt; hall.settle(0), won(1, 6, None));
-    assert_eq!(rt; hall.settle(1), won(1, 8, Some(0)));
-    assert_eq!(rt; hall.settle(2), Ok(Verdict::Stale));
-    assert_eq!(rt; bid(&mut hall, 0), won(0, 4, None));
-    assert_eq!(rt; bid(&mut hall, 2), won(2, 3, None));
-    Ok(())
-}
-
-// Worth 5, then what the second carrier makes of a price of 6.
-fn second_bid(worth: u64) -> Result<Verdict, Refusal> {
-    let entries = [Entry { job: 0, worth: 5 }, Entry { job: 0, worth }];
-    let mut hall = hall_of(2, 1, &[0, 1, 2], &entries);
-    hall.start(1, 4)?;
-    bid(&mut hall, 0)?;
-    bid(&mut hall, 1)
-}
-
-// A net below 0 or of 0 is out; above 0 it wins, and the former holder waits.
-#[test]
-fn nets_around_zero(rt: HostRuntime) {
-    assert_eq!(rt; second_bid(3), Ok(Verdict::Out));
-    assert_eq!(rt; second_bid(6), Ok(Verdict::Out));
-    assert_eq!(rt; second_bid(7), won(0, 8, Some(0)));
-}
-
-// Of equal nets the smaller job is best, and the other is the runner-up.
-#[test]
-fn equal_nets(rt: HostRuntime) -> Result<(), Fail> {
-    let entries = [Entry { job: 0, worth: 9 }, Entry { job: 1, worth: 9 }];
-    let mut hall = hall_of(1, 2, &[0, 2], &entries);
-    hall.start(1, 4)?;
-    assert_eq!(rt; bid(&mut hall, 0), won(0, 1, None));
-    Ok(())
-}
-
 // A negative other net counts as 0: the bid is worth + step, and not more.
 #[test]
 fn a_negative_runner_up_counts_as_none(rt: HostRuntime) -> Result<(), Fail> {

@@ -1,36 +1,10 @@
 //! Runs and questions.
 use crate::sheets::{hall_of, table_hall};
 use auction::call::{Answer, Call};
-use auction::standing::{Best, Bid, Counts, Ending, Held, Report, Standing};
+use auction::standing::{Best, Bid, Counts, Ending, Report, Standing};
 use refusals::Refusal;
 use sources::form::Entry;
 use std::test::Fail;
-
-// Depth 1: one carrier bids at a time.
-#[test]
-fn a_run_to_its_end(rt: HostRuntime) -> Result<(), Fail> {
-    let mut hall = table_hall();
-    hall.start(1, 4)?;
-    let report = Report {
-        steps: 12,
-        counts: Counts {
-            summonses: 4,
-            awards: 4,
-            stales: 0,
-            outs: 0,
-        },
-        ending: Ending::Done,
-    };
-    assert_eq!(rt; hall.run(1, 100), Ok(report));
-    assert_eq!(rt; hall.price(1), Ok(8));
-    assert_eq!(rt; hall.holder(1), Ok(Some(1)));
-    assert_eq!(rt;
-        hall.standing(0),
-        Ok(Standing::Served(Held { job: 0, worth: 5 }))
-    );
-    assert_eq!(rt; hall.worth(), Ok(24));
-    Ok(())
-}
 
 // What carrier 2 finds in its row while every price is 0.
 const BID_OF_CARRIER_2: Bid = Bid {
