@@ -2,7 +2,9 @@
 # Runs `inspect` and `pair` on each sample sheet, and `replay` on each sample log. They must print what stands beside the
 # sample: in the .txt (`inspect`), the .pair.txt (`pair`), the .log.txt (`replay`). Each ends with status 1 if that is a
 # refusal or a line that is not understood, else with 0. A log is replayed over the sheet of its name, or over
-# three_by_three.sheet if there is none. The first run of each program builds it.
+# three_by_three.sheet if there is none. The programs whose input that sheet is in the gate must be given it as it stands here.
+# The first run of each program builds it. With --built, as the gate asks once `rt ci` has passed, a program that `rt ci` left
+# is used as it is, unless something below crates/ was touched since.
 set -eu
 root=$(cd "$(dirname "$0")/.." && pwd)
 samples=$root/samples
@@ -10,11 +12,18 @@ good=$samples/three_by_three.sheet
 work=$(mktemp -d)
 trap 'rm -rf "$work"' EXIT
 count=0 failed=0
+built=${1-}
+
+# Whether the program was built, and no file that it may be made of was touched since; -cnewer sees also one that kept its time.
+stands() {
+    [ -x "$run" ] && [ -z "$(find "$root/crates" "$root/crates.txt" -name out -prune -o -type f -cnewer "$run" -print -quit)" ]
+}
 
 # build PROGRAM [ARGUMENT]: runs it once on a good sheet, or on an empty log with the sheet as its argument.
 build() {
     program=$1
     run=$root/crates/$program/out/$program
+    if [ "$built" = --built ] && stands; then return; fi
     if [ $# = 1 ]; then input=$good; else input=/dev/null; fi
     shift
     (cd "$root/crates/$program" && rt run -- "$@" <"$input") >"$work/built" 2>&1 && [ -x "$run" ] || {
@@ -39,6 +48,9 @@ try() {
     fi
 }
 
+for copy in inspect/stdin pair/stdin replay/data/three_by_three.sheet; do
+    cmp "$root/crates/$copy" "$good" || { echo "samples: crates/$copy is another sheet"; exit 1; }
+done
 build inspect
 for sheet in "$samples"/*.sheet; do try "$sheet" "${sheet%.sheet}.txt"; done
 build pair
