@@ -77,7 +77,6 @@ fn random_file(heap: Global, draw: &mut Draw) -> Result<Vec<u8>, AllocError> {
             1 => 20,
             _ => 3,
         };
-        // By `as`: the check proves that no bits are lost.
         bytes.push((draw.below(most) & 255) as u8)?;
     }
     Ok(bytes)

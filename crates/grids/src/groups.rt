@@ -12,7 +12,6 @@ pub fn push_number(bytes: &mut Vec<u8>, n: u64) -> Result<(), AllocError>
 {
     let mut rest = n;
     while rest >= 128 {
-        // By `as`: the check proves that no bits are lost.
         bytes.push((128 + rest % 128) as u8)?;
         rest /= 128;
     }

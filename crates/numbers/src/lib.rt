@@ -93,7 +93,7 @@ pub fn number_len(n: u64) -> usize
     ensures value { result ≡ length (encoded n) }
     ensures sized { Sized n }
 {
-    // By `as`: the check proves that no bits are lost, and `try_from` would add a case that cannot come.
+    // By `as`: `try_from` would add a case that cannot come.
     n.max(1).ilog(128) as usize + 1
 }
 
@@ -119,7 +119,6 @@ fn put_groups(places: &mut [u8], n: u64)
 {
     let mut rest = n;
     for place in places.iter_mut() {
-        // By `as`: the check proves that no bits are lost.
         *place = if rest < 128 {
             rest as u8
         } else {

@@ -9,7 +9,6 @@ use std::io::{Read, Write};
 // printed too, and ends with status 1.
 fn main(rt: HostRuntime) -> anyhow::Result<()> {
     let mut sheet = Vec::new(rt.alloc());
-    // By `as`: the check proves that no bits are lost.
     rt.stdin()
         .take(MOST_BYTES as u64 + 1)
         .read_to_end(&mut sheet)?;

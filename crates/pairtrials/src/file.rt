@@ -5,7 +5,6 @@ use std::alloc::{AllocError, Global};
 
 // Appends a row: how many jobs the carrier may take, and each of them with its worth. Gives that count.
 fn push_row(file: &mut Vec<u8>, row: &[u64; 4]) -> Result<u64, AllocError> {
-    // By `as`: the check proves that no bits are lost.
     let count = row.iter().filter(|worth| **worth > 0).count() as u64;
     push_number(file, count)?;
     for (job, worth) in row.iter().enumerate() {

@@ -31,7 +31,6 @@ fn number(field: &str) -> Option<u64> {
 // The line of a carrier, without its end.
 fn read_line(line: &str, carrier: usize) -> Option<Line> {
     let (first, rest) = line.split_once(' ')?;
-    // By `as`: the check proves that no bits are lost.
     if number(first)? != carrier as u64 {
         return None;
     }

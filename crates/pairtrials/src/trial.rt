@@ -80,7 +80,6 @@ fn on_grid(grid: &Grid, sheet: &[u8], sums: &mut Sums) -> anyhow::Result<()> {
 // A file with one byte changed: refused, and then the buffer is as it was, or paired.
 fn on_damaged(heap: Global, draw: &mut Draw, sheet: &[u8], sums: &mut Sums) -> anyhow::Result<()> {
     let mut damaged = Vec::from_slice(heap, sheet)?;
-    // By `as`: the check proves that no bits are lost.
     let at = draw.below(sheet.len() as u64) as usize;
     if let Some(byte) = damaged.get_mut(at) {
         *byte = draw.below(256) as u8;
