@@ -1,6 +1,7 @@
 -- What a layer makes of the meaning below it: the same carriers, jobs and row lengths, and other worths.
-use Rattle.std.specs.Prelude.{◌≡◌, ℕ, ◌*◌, ◌^◌, min, cond, List, map, nat_lt}
+use Rattle.std.specs.Prelude.{◌≡◌, ℕ, ◌*◌, min, cond, List, map, nat_lt}
 use Rattle.std.specs.Option.{option_map}
+use Rattle.sources.specs.Limits.{highest_worth}
 use Rattle.sources.specs.Meaning.{Meaning, row_len, entry_at}
 
 -- An entry whose worth is passed through h.
@@ -28,9 +29,9 @@ floored f w = cond (nat_lt w f) 0 w
 abbrev pub floor_of : ℕ → Meaning → Meaning
 floor_of f m = revalued (floored f) m.ceiling m
 
--- Times g: a worth w becomes g * w, or 2 ^ 60 if that is smaller.
+-- Times g: a worth w becomes g * w, or the highest worth if that is smaller.
 abbrev pub scaled : ℕ → ℕ → ℕ
-scaled g w = min (g * w) (2 ^ 60)
+scaled g w = min (g * w) highest_worth
 
 -- The ceiling likewise.
 abbrev pub times_of : ℕ → Meaning → Meaning

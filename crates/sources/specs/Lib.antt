@@ -1,3 +1,4 @@
+pub mod Limits
 pub mod Meaning
 pub mod Layers
 pub mod Sheets

@@ -1,16 +1,17 @@
 -- Which refusal a heading and two tables meet when a sheet is filled from them, and what the sheet then means.
-use Rattle.std.specs.Prelude.{ℕ, zero, suc, ◌+◌, ◌-◌, ◌^◌, Bool, true, cond, ◌&&◌, ◌||◌, List, map, length, take, drop, Some, None, Ok, Err, Option, Result, ◌==◌, nat_le, nat_lt, slice_index, slice_index_or}
+use Rattle.std.specs.Prelude.{ℕ, zero, suc, ◌+◌, ◌-◌, Bool, true, cond, ◌&&◌, ◌||◌, List, map, length, take, drop, Some, None, Ok, Err, Option, Result, ◌==◌, nat_le, nat_lt, slice_index, slice_index_or}
 use Rattle.std.specs.Option.{option_or}
 use Rattle.std.specs.List.{list_any, range_with_len}
 use Rattle.refusals.specs.declared.Refusal.{Refusal}
 use Rattle.refusals.specs.declared.Refusal.TheVariants.{CountsOutside, JobOutOfOrder, WorthOutside, StartsUnfit}
 use Rattle.sources.specs.declared.form.Entry.{Entry}
 use Rattle.sources.specs.declared.form.Heading.{Heading}
+use Rattle.sources.specs.Limits.{most_carriers, most_jobs, highest_ceiling}
 use Rattle.sources.specs.Meaning.{Meaning}
 
--- Carriers are 1 to 128, jobs 1 to 256, and the ceiling is at most 2 ^ 36.
+-- There is a carrier and a job, and neither they nor the ceiling pass the limits of a sheet.
 abbrev pub within_limits : Heading → Bool
-within_limits h = (nat_le 1 h.carriers && nat_le h.carriers 128) && ((nat_le 1 h.jobs && nat_le h.jobs 256) && nat_le h.ceiling (2 ^ 36))
+within_limits h = (nat_le 1 h.carriers && nat_le h.carriers most_carriers) && ((nat_le 1 h.jobs && nat_le h.jobs most_jobs) && nat_le h.ceiling highest_ceiling)
 
 -- The heading of a new sheet.
 abbrev pub blank : Heading → Bool

@@ -1,7 +1,7 @@
 //! What follows from the answers of any source.
-ghost use Rattle.std.specs.Prelude.{◌≡◌, length, drop};
+ghost use Rattle.std.specs.Prelude.{◌≡◌, length};
 ghost use Rattle.std.specs.Iterator.{YieldsFirst, item_count};
-ghost use Rattle.sources.specs.Meaning.{row_of};
+ghost use Rattle.sources.specs.Meaning.{row_of, row_behind};
 ghost use Rattle.sources.specs.Tables.{heading_of};
 
 use crate::form::Heading;
@@ -37,14 +37,15 @@ pub struct RowEntries<'a, S: Source> {
 
 /// The entries of a carrier's row; none past the last carrier.
 pub fn entries<S: Source>(source: &S, carrier: usize) -> RowEntries<'_, S>
-    ensures { drop result.places.start (row_of (S.Source.meaning result.source.now) result.carrier) ≡ row_of (S.Source.meaning source.now) carrier }
+    ensures { row_behind (S.meaning result.source.now) result.carrier result.places.start ≡ row_of (S.meaning source.now) carrier }
 {
     entries_from(source, carrier, 0)
 }
 
 /// The same from a place on.
 pub fn entries_from<S: Source>(source: &S, carrier: usize, place: usize) -> RowEntries<'_, S>
-    ensures { drop result.places.start (row_of (S.Source.meaning result.source.now) result.carrier) ≡ drop place (row_of (S.Source.meaning source.now) carrier) }
+    ensures { row_behind (S.meaning result.source.now) result.carrier result.places.start
+        ≡ row_behind (S.meaning source.now) carrier place }
 {
     let places = place..row_length(source, carrier);
     RowEntries {
@@ -57,9 +58,9 @@ pub fn entries_from<S: Source>(source: &S, carrier: usize, place: usize) -> RowE
 impl<S: Source> Iterator for RowEntries<'_, S> {
     type Item = (usize, u64);
 
-    ghost next_gives = { YieldsFirst (λ s. drop s.places.start (row_of (S.Source.meaning s.source.now) s.carrier)) };
+    ghost next_gives = { YieldsFirst (λ s. row_behind (S.Source.meaning s.source.now) s.carrier s.places.start) };
 
-    ghost remaining = { item_count (λ s. drop s.places.start (row_of (S.Source.meaning s.source.now) s.carrier)) };
+    ghost remaining = { item_count (λ s. row_behind (S.Source.meaning s.source.now) s.carrier s.places.start) };
 
     fn next(&mut self) -> Option<(usize, u64)> {
         let place = self.places.next()?;

@@ -1,5 +1,6 @@
 //! What filling a sheet checks.
 ghost use Rattle.std.specs.Prelude.{◌≡◌, ℕ, ◌+◌, ◌<◌, ◌≤◌, true, length, slice_index};
+ghost use Rattle.sources.specs.Limits.{most_carriers};
 ghost use Rattle.sources.specs.Sheets.{within_limits, starts_good, has_start, entry_refusal, fill_verdict};
 
 use crate::form::{Entry, Heading};
@@ -25,7 +26,7 @@ pub fn within_limits(heading: Heading) -> bool
 
 // Whether row starts are carriers + 1 in number, begin with 0, never fall, and don't pass the entry table's end.
 fn starts_good(heading: Heading, starts: &[usize], count: usize) -> bool
-    requires { heading.carriers ≤ 128 }
+    requires { heading.carriers ≤ most_carriers }
     ensures { result ≡ starts_good heading starts.now count }
 {
     if starts.len() != heading.carriers + 1 || starts[0] != 0 {
@@ -66,7 +67,7 @@ fn entry_refusal(heading: Heading, starts: &[usize], entries: &[Entry]) -> Optio
     // and places rise, both tables are gone through once.
     let mut least = 0;
     let mut next = 0;
-    // A loop over the entry table with its index: a form that the project keeps (docs/DECISIONS.md).
+    // By index: whether a row starts at an entry is asked of its place in the table.
     for (k, entry) in entries.iter().enumerate() {
         if entry.job < least {
             next = start_from(starts, next, k);

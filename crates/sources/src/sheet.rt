@@ -52,7 +52,8 @@ impl<'a> Sheet<'a> {
         entries: &'a [Entry],
     ) -> Result<(), Refusal>
         ensures verdict { result ≡ fill_verdict heading starts.now entries.now }
-        ensures means { sheet_meaning self.new ≡ (if is_ok result then sheet_of heading starts.now entries.now else sheet_meaning self.old) }
+        ensures means { let filled = sheet_of heading starts.now entries.now in
+            sheet_meaning self.new ≡ (if is_ok result then filled else sheet_meaning self.old) }
         ensures kept { is_ok result ≡ false → self.new ≡ self.old }
         ensures exact { FillsExactly heading starts.now entries.now result (sheet_meaning self.new) }
     {
@@ -67,7 +68,8 @@ impl<'a> Sheet<'a> {
 
     // The carrier's row; `None` past the last carrier.
     fn row(&self, carrier: usize) -> Option<&[Entry]>
-        ensures { option_map (λ x. x.now) result ≡ slice_get (sheet_rows self.now.heading self.now.starts.now self.now.entries.now) carrier }
+        ensures { let s = self.now in
+            option_map (λ x. x.now) result ≡ slice_get (sheet_rows s.heading s.starts.now s.entries.now) carrier }
     {
         if carrier < self.heading.carriers {
             Some(&self.entries[self.starts[carrier]..self.starts[carrier + 1]])

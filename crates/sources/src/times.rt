@@ -7,13 +7,14 @@ use crate::revaluing::{Revaluer, Revaluing};
 use crate::source::Source;
 use crate::visitor::Visitor;
 
-const HIGHEST_WORTH: u64 = 1 << 60;
+/// The highest worth and the highest ceiling of any source: a times layer stops there.
+pub const HIGHEST_WORTH: u64 = 1 << 60;
 
 // No product of a worth below this reaches 2^60.
 const SMALL_WORTH: u64 = 1 << 28;
 
-/// A struct of its own beside `Floor`: each layer is a plain value that holds the source below it, a form that the project
-/// keeps (docs/DECISIONS.md).
+/// Each worth of the source below times a factor. That source is held by value, so that a pile of layers is one value, and
+/// nobody else alters what is below.
 #[derive(Drop)]
 pub struct Times<S> {
     pub below: S,

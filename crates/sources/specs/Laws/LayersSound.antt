@@ -1,5 +1,5 @@
 -- What every layer keeps, and that it is sound over a sound source.
-use Rattle.std.specs.Prelude.{◌≡◌, ℕ, ◌+◌, ◌^◌, ◌<◌, ◌≤◌, List, [], ◌∷◌, length, Some, None, Option, nat_lt, refl}
+use Rattle.std.specs.Prelude.{◌≡◌, ℕ, ◌+◌, ◌<◌, ◌≤◌, List, [], ◌∷◌, length, Some, None, Option, nat_lt, refl}
 use Rattle.std.proofs.Common.{ap, ◌∙◌, arith, mul-le-mul_left}
 use Rattle.std.specs.Option.{option_map, option_and_then}
 use Rattle.std.specs.List.{slice_get, AllByRecursion}
@@ -8,6 +8,7 @@ use Rattle.std.proofs.lemmas.List.{length-map}
 use Rattle.std.proofs.lemmas.Option.{slice_get-map}
 use Rattle.std.proofs.ByRecursion.{All-map, All-weaker}
 use Rattle.sources.specs.Meaning.{Meaning, Sound, Rising, row_len, entry_at}
+use Rattle.sources.specs.Limits.{highest_worth}
 use Rattle.sources.specs.Layers.{revalued_entry, revalued_row, revalued, floored, floor_of, scaled, times_of}
 
 module _ (h : ℕ → ℕ) (c : ℕ) where
@@ -30,7 +31,7 @@ module _ (h : ℕ → ℕ) (c : ℕ) where
   rising_in low (e ∷ es) r = (r.0, rising_in (e.0 + 1) es r.1)
 
   -- a layer is sound over a sound source if no worth then passes its ceiling
-  pub revalued_sound : (m : Meaning) → Sound m → ((w : ℕ) → w ≤ m.ceiling → h w ≤ c) → c ≤ 2 ^ 60 → Sound (revalued h c m)
+  pub revalued_sound : (m : Meaning) → Sound m → ((w : ℕ) → w ≤ m.ceiling → h w ≤ c) → c ≤ highest_worth → Sound (revalued h c m)
   revalued_sound m s up small = record {
     counted = length-map m.rows (revalued_row h) ∙ s.counted;
     rising = All-map (Rising 0) (revalued_row h) m.rows (All-weaker (Rising 0) (λ row. Rising 0 (revalued_row h row)) (rising_in 0) m.rows s.rising);

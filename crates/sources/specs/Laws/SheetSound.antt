@@ -1,5 +1,5 @@
 -- What a sheet means, from its rows, and that it is sound.
-use Rattle.std.specs.Prelude.{◌≡◌, ℕ, zero, suc, ◌+◌, ◌-◌, ◌^◌, ◌<◌, ◌≤◌, Bool, true, false, cond, ◌&&◌, ◌||◌, List, [], ◌∷◌, map, length, get_or, drop, is_some, Some, None, Decides, Option, ◌==◌, ◌≢◌, nat_eq, nat_le, nat_lt, slice_index, slice_index_or, refl}
+use Rattle.std.specs.Prelude.{◌≡◌, ℕ, zero, suc, ◌+◌, ◌-◌, ◌<◌, ◌≤◌, Bool, true, false, cond, ◌&&◌, ◌||◌, List, [], ◌∷◌, map, length, get_or, drop, is_some, Some, None, Decides, Option, ◌==◌, ◌≢◌, nat_eq, nat_le, nat_lt, slice_index, slice_index_or, refl}
 use Rattle.std.proofs.Common.{sym, ap, subst, ◌∙◌, ⊎_elim, arith, add-zero}
 use Rattle.std.specs.Option.{option_or}
 use Rattle.std.specs.List.{HoldsAt, AllByRecursion}
@@ -8,6 +8,7 @@ use Rattle.std.proofs.ByRecursion.{All-map, All-from_get_or}
 use Rattle.std.proofs.lemmas.List.FromFn.{length-map-range_with_len}
 use Rattle.std.proofs.lemmas.Bool.{true≢false, leb-true, ltb-true, eqb-true, and_parts, or_cases, cases_lt}
 use Rattle.std.proofs.lemmas.Bool.Decides.{Decides-by_or, Decides-eqb}
+use Rattle.sources.specs.Limits.{most_carriers, most_jobs, highest_ceiling, highest_worth}
 use Rattle.sources.specs.Meaning.{Sound, Rising}
 use Rattle.sources.specs.declared.form.Entry.{Entry}
 use Rattle.sources.specs.declared.form.Heading.{Heading}
@@ -119,12 +120,12 @@ module _ (h : Heading) (starts : List ℕ) (entries : List Entry) (s : Started h
   pub sheet_nonzero : AllByRecursion (AllByRecursion (λ e. 1 ≤ e.1)) (sheet_of h starts entries).rows
   sheet_nonzero = all_pairs (λ e. 1 ≤ e.1) (λ i l k m. (row_good i l k m).1)
 
-low_ceiling : (h : Heading) → (within_limits h || blank h) ≡ true → h.ceiling ≤ 2 ^ 60
+low_ceiling : (h : Heading) → (within_limits h || blank h) ≡ true → h.ceiling ≤ highest_worth
 low_ceiling h e =
     ⊎_elim
-    (λ t. let p = and_parts (nat_le 1 h.carriers && nat_le h.carriers 128) ((nat_le 1 h.jobs && nat_le h.jobs 256) && nat_le h.ceiling (2 ^ 36)) t in
-    let q = and_parts (nat_le 1 h.jobs && nat_le h.jobs 256) (nat_le h.ceiling (2 ^ 36)) p.1 in
-    omega (arith, leb-true h.ceiling (2 ^ 36) q.1))
+    (λ t. let p = and_parts (nat_le 1 h.carriers && nat_le h.carriers most_carriers) ((nat_le 1 h.jobs && nat_le h.jobs most_jobs) && nat_le h.ceiling highest_ceiling) t in
+    let q = and_parts (nat_le 1 h.jobs && nat_le h.jobs most_jobs) (nat_le h.ceiling highest_ceiling) p.1 in
+    omega (arith, leb-true h.ceiling highest_ceiling q.1))
     (λ t. let p = and_parts (h.carriers == 0) (h.jobs == 0 && h.ceiling == 0) t in
     let q = and_parts (h.jobs == 0) (h.ceiling == 0) p.1 in
     omega (arith, eqb-true h.ceiling 0 q.1))
