@@ -23,6 +23,10 @@ decoded_in zero bytes = Err NumberTooLong
 decoded_in (suc k) [] = Err NumberCut
 decoded_in (suc k) (b ∷ bytes) = cond (nat_lt b 128) (Ok (b, bytes)) (before b (decoded_in k bytes))
 
--- The same of a number of a sheet file, which has at most six groups.
+-- The most groups of a number of a sheet file.
+abbrev pub most_groups : ℕ
+most_groups = 6
+
+-- The same of a number of a sheet file.
 abbrev pub decoded : List ℕ → Result (ℕ × List ℕ) Refusal
-decoded bytes = decoded_in 6 bytes
+decoded bytes = decoded_in most_groups bytes
