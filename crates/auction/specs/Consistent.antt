@@ -1,17 +1,19 @@
 -- What holds of every tally that calls lead to, as far as it needs no row of the source. No count can pass 64 bits because of it.
-use Rattle.std.specs.Prelude.{◌≡◌, ℕ, ◌+◌, ◌-◌, ◌*◌, ◌^◌, ◌≤◌, length, None, sum, count_by}
+use Rattle.std.specs.Prelude.{◌≡◌, ℕ, ◌+◌, ◌-◌, ◌*◌, ◌≤◌, length, None, sum, count_by}
 use Rattle.auction.specs.Standings.{is_bidding, is_out, holds_job, StandingSound, is_risen}
 use Rattle.auction.specs.Tally.{Tally, price_at, holder_at, standing_at, is_holder}
+use Rattle.sources.specs.Limits.{most_carriers, most_jobs, highest_ceiling}
+use Rattle.auction.specs.Limits.{highest_step, most_lanes}
 
 -- What start has checked.
 pub record Limits (carriers jobs ceiling step lanes : ℕ) : Type 0 where
-  pub few_carriers : carriers ≤ 128
-  pub few_jobs : jobs ≤ 256
-  pub low_ceiling : ceiling ≤ 2 ^ 36
+  pub few_carriers : carriers ≤ most_carriers
+  pub few_jobs : jobs ≤ most_jobs
+  pub low_ceiling : ceiling ≤ highest_ceiling
   pub some_step : 1 ≤ step
-  pub low_step : step ≤ 2 ^ 36
+  pub low_step : step ≤ highest_step
   pub some_lanes : 1 ≤ lanes
-  pub few_lanes : lanes ≤ 32
+  pub few_lanes : lanes ≤ most_lanes
 
 pub record Consistent (carriers jobs ceiling : ℕ) (t : Tally) : Type 0 where
   pub limits : Limits carriers jobs ceiling t.step t.lanes

@@ -1,3 +1,4 @@
+pub mod Limits
 pub mod Tally
 pub mod Bids
 pub mod Standings

@@ -1,6 +1,6 @@
 -- The rules: what each call answers, and the tally after it. No tally is that of a hall that was never started.
 -- Refusals stand in the order in which they are checked, and a refused call leaves the tally as it was.
-use Rattle.std.specs.Prelude.{ℕ, ◌+◌, ◌^◌, Bool, cond, ◌&&◌, List, length, replicate, Some, None, Ok, Err, Option, Result, nat_le, nat_lt, slice_set}
+use Rattle.std.specs.Prelude.{ℕ, ◌+◌, Bool, cond, ◌&&◌, List, length, replicate, Some, None, Ok, Err, Option, Result, nat_le, nat_lt, slice_set}
 use Rattle.std.specs.Option.{option_map}
 use Rattle.std.specs.Result.{result_map_both}
 use Rattle.sources.specs.Meaning.{Meaning, row_of}
@@ -16,6 +16,7 @@ use Rattle.auction.specs.declared.standing.Standing.{Standing}
 use Rattle.auction.specs.declared.standing.Standing.TheVariants.{Waiting, Bidding, Served, Out}
 use Rattle.auction.specs.declared.standing.Verdict.{Verdict}
 use Rattle.auction.specs.declared.standing.Verdict.TheVariants.{Out as GoesOut, Stale, Awarded}
+use Rattle.auction.specs.Limits.{highest_step, most_lanes}
 use Rattle.auction.specs.Bids.{fresh, looked_on, judged, best_worth}
 use Rattle.auction.specs.Tally.{Tally, standing_at}
 
@@ -24,13 +25,13 @@ use Rattle.auction.specs.Tally.{Tally, standing_at}
 abbrev pub between : ℕ → ℕ → ℕ → Bool
 between low high n = nat_le low n && nat_le n high
 
--- The limits of a sheet: carriers are 1 to 128, jobs 1 to 256, and the ceiling is at most 2 ^ 36.
+-- The counts are within the limits of a sheet.
 abbrev pub in_limits : Meaning → Bool
 in_limits m = within_limits (heading_of m)
 
 abbrev pub start_answer : ℕ → ℕ → Meaning → Result (Unit {0}) Refusal
 start_answer step lanes m =
-    cond (in_limits m) (cond (between 1 (2 ^ 36) step) (cond (between 1 32 lanes) (Ok tt) (Err LanesOutside)) (Err StepOutside)) (Err CountsOutside)
+    cond (in_limits m) (cond (between 1 highest_step step) (cond (between 1 most_lanes lanes) (Ok tt) (Err LanesOutside)) (Err StepOutside)) (Err CountsOutside)
 
 abbrev pub no_counts : Counts
 no_counts = record { summonses = 0; awards = 0; stales = 0; outs = 0 }

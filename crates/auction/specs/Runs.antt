@@ -16,6 +16,7 @@ use Rattle.auction.specs.declared.standing.Report.{Report}
 use Rattle.auction.specs.Standings.{is_waiting, is_bidding, if_waiting, in_flight, looks_for, if_bidding}
 use Rattle.auction.specs.Tally.{Tally}
 use Rattle.auction.specs.Rules.{between, called, settle_answer, settled}
+use Rattle.auction.specs.Limits.{greatest_depth}
 
 -- What a run works on: the line, the flight, the tally, and the steps made so far.
 pub record RunState : Type 0 where
@@ -97,13 +98,13 @@ pub record Reports (budget : ℕ) (before after : Tally) (p : Report) : Type 0 w
   pub stales_made : before.counts.stales + p.counts.stales ≡ after.counts.stales
   pub outs_made : before.counts.outs + p.counts.outs ≡ after.counts.outs
 
--- Whether the hall was started is checked first, the depth then: 1 to 128.
+-- Whether the hall was started is checked first, the depth then.
 abbrev pub run_answer : ℕ → ℕ → Meaning → Option Tally → Result Report Refusal
 run_answer depth budget m None = Err NeverStarted
-run_answer depth budget m (Some t) = cond (between 1 128 depth) (Ok (run_report t (many_steps m depth budget (beginning m t)))) (Err DepthOutside)
+run_answer depth budget m (Some t) = cond (between 1 greatest_depth depth) (Ok (run_report t (many_steps m depth budget (beginning m t)))) (Err DepthOutside)
 
 unfoldable pub ran : Meaning → ℕ → ℕ → Tally → Tally
-ran m depth budget t = cond (between 1 128 depth) (many_steps m depth budget (beginning m t)).tally t
+ran m depth budget t = cond (between 1 greatest_depth depth) (many_steps m depth budget (beginning m t)).tally t
 
 abbrev pub run_tally : ℕ → ℕ → Meaning → Option Tally → Option Tally
 run_tally depth budget m o = option_map (ran m depth budget) o

@@ -2,4 +2,5 @@
 #![tactic(auto)]
 
 pub mod call;
+pub mod limits;
 pub mod standing;
