@@ -6,6 +6,7 @@ use Rattle.sources.specs.Meaning.{Meaning}
 use Rattle.sources.specs.Tables.{entries_of, heading_of, starts_of}
 use Rattle.sources.specs.declared.form.Entry.{Entry}
 use Rattle.sources.specs.declared.form.Heading.{Heading}
+use Rattle.sheetfile.specs.Limits.{most_bytes, most_entries}
 use Rattle.sheetfile.specs.Layout.{LongEnough, SheetFile, entries_in}
 use Rattle.sheetfile.specs.Reading.{loaded}
 use Rattle.sheetfile.specs.Tables.{sheet_in}
@@ -20,10 +21,10 @@ pub record LoadsExactly (bytes starts : List ℕ) (entries : List Entry) (r : Re
   pub only : (h : Heading) → r ≡ Ok h → (m : Meaning) × SheetFile bytes m × LongEnough m (length starts) (length entries) × (h ≡ heading_of m) × (sheet_in h starts' entries' ≡ Ok m)
   pub refused : (e : Fault) → r ≡ Err e → (starts' ≡ starts) × (entries' ≡ entries)
 
--- Every sheet file of at most 32,768 bytes and 4,096 entries is loaded, and the sheet over the tables means it.
+-- Every sheet file within the limits of the programs is loaded, and the sheet over the tables means it.
 abbrev pub LoadsEveryWithin : List ℕ → Result Heading Fault → List ℕ → List Entry → Type 0
 LoadsEveryWithin bytes r starts entries =
-    (m : Meaning) → SheetFile bytes m → length bytes ≤ 32768 → entries_in m.rows ≤ 4096 → (r ≡ Ok (heading_of m)) × (sheet_in (heading_of m) starts entries ≡ Ok m)
+    (m : Meaning) → SheetFile bytes m → length bytes ≤ most_bytes → entries_in m.rows ≤ most_entries → (r ≡ Ok (heading_of m)) × (sheet_in (heading_of m) starts entries ≡ Ok m)
 
 -- What was written of a source is the sheet file of that source without its zero entries, so that a load accepts it. Of a
 -- source that means a sheet file, that very file was written.

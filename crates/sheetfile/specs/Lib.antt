@@ -1,3 +1,4 @@
+pub mod Limits
 pub mod Steps
 pub mod Layout
 pub mod Begun

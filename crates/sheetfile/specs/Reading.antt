@@ -1,15 +1,17 @@
 -- What comes of reading any bytes: a heading and rows, or the first refusal with its place.
 -- Each part is read from a place on, and gives what is read and the place behind it.
-use Rattle.std.specs.Prelude.{ℕ, zero, suc, ◌+◌, ◌-◌, ◌^◌, Bool, true, cond, ◌&&◌, List, [], ◌∷◌, length, Ok, Err, Result, ◌==◌, nat_le, nat_lt}
+use Rattle.std.specs.Prelude.{ℕ, zero, suc, ◌+◌, ◌-◌, Bool, true, cond, ◌&&◌, List, [], ◌∷◌, length, Ok, Err, Result, ◌==◌, nat_le, nat_lt}
 use Rattle.std.specs.declared.ops.Bound.{Bound}
 use Rattle.std.specs.declared.ops.Bound.TheVariants.{Included, Excluded, Unbounded}
 use Rattle.refusals.specs.Faults.{fault_at, fault_of}
 use Rattle.refusals.specs.declared.Fault.{Fault}
 use Rattle.refusals.specs.declared.Refusal.TheVariants.{BytesFollow, CountsOutside, JobOutOfOrder, TooShort, TotalDiffers, WorthOutside}
 use Rattle.numbers.specs.Reading.{read_at}
+use Rattle.sources.specs.Limits.{most_carriers, most_jobs, highest_ceiling}
 use Rattle.sources.specs.Meaning.{Meaning}
 use Rattle.sources.specs.declared.form.Heading.{Heading}
 use Rattle.sheetfile.specs.Layout.{Row, entries_in, meaning_of}
+use Rattle.sheetfile.specs.Limits.{most_bytes, most_entries, most_starts}
 use Rattle.sheetfile.specs.Steps.{and_then, prefixed, room_for}
 
 -- A number is not below the start of a range, and not past its end.
@@ -37,9 +39,9 @@ count_from bs low high at = number_from bs (λ n. nat_le low n && nat_le n high)
 -- The heading: each number is checked as it is read.
 abbrev pub heading_from : List ℕ → ℕ → Result (Heading × ℕ) Fault
 heading_from bs at =
-    and_then (count_from bs 1 128 at) (λ c.
-    and_then (count_from bs 1 256 c.1) (λ j.
-    and_then (count_from bs 0 (2 ^ 36) j.1) (λ w.
+    and_then (count_from bs 1 most_carriers at) (λ c.
+    and_then (count_from bs 1 most_jobs c.1) (λ j.
+    and_then (count_from bs 0 highest_ceiling j.1) (λ w.
     Ok (record { carriers = c.0; jobs = j.0; ceiling = w.0 }, w.1))))
 
 -- A job, at least low and below the number of jobs.
@@ -98,6 +100,6 @@ loaded bs starts room =
     and_then (closed_at bs (entries_in r.0) r.1) (λ _.
     Ok (meaning_of h.0 r.0))))
 
--- The whole file within the limits of the programs: at most 32,768 bytes, of which none is read where there are more, and tables for 128 carriers and 4,096 entries.
+-- The whole file within the limits of the programs. Where it has more bytes, none of them is read.
 abbrev pub loaded_within : List ℕ → Result Meaning Fault
-loaded_within bs = cond (nat_lt 32768 (length bs)) (Err (fault_of TooShort)) (loaded bs 129 4096)
+loaded_within bs = cond (nat_lt most_bytes (length bs)) (Err (fault_of TooShort)) (loaded bs most_starts most_entries)

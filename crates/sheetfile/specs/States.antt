@@ -8,7 +8,7 @@ use Rattle.sources.specs.Tables.{entry_of, heading_of}
 use Rattle.sources.specs.declared.form.Entry.{Entry}
 use Rattle.sources.specs.declared.form.Heading.{Heading}
 use Rattle.sheetfile.specs.Layout.{Row, SheetFile}
-use Rattle.sheetfile.specs.Reading.{closed_at, row_in}
+use Rattle.sheetfile.specs.Reading.{closed_at, heading_in, row_in}
 use Rattle.sheetfile.specs.Steps.{and_then, room_for, updated}
 use Rattle.sheetfile.specs.Tables.{HoldsRows, sheet_in}
 use Rattle.numbers.specs.Writing.{over}
@@ -29,6 +29,10 @@ abbrev pub stand : Headed → Stand
 stand l = record { reader = l.reader; heading = l.heading; rows = l.rows; used = l.used }
 
 -- ---- The heading is read by a bare loader.
+
+-- The heading that a bare loader reads, for a table of so many starts, and the place behind it.
+abbrev pub first_heading : Bare → ℕ → Result (Heading × ℕ) Fault
+first_heading l starts = heading_in l.bytes.now starts
 
 -- Where a loader stands that has read a heading and no row yet, or the bare loader as it was, with the refusal.
 abbrev pub headed_by : Bare → Result (Heading × ℕ) Fault → Result Stand (Refused Bare)

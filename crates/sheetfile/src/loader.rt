@@ -4,7 +4,6 @@ ghost use Rattle.std.specs.Result.{result_map_both};
 ghost use Rattle.sheetfile.specs.Begun.{Begun};
 ghost use Rattle.sheetfile.specs.Layout.{SheetFile};
 ghost use Rattle.sheetfile.specs.Readers.{value_of};
-ghost use Rattle.sheetfile.specs.Reading.{heading_in};
 ghost use Rattle.sheetfile.specs.Steps.{updated, without_value};
 ghost use Rattle.sheetfile.specs.Tables.{HoldsRows, row_count};
 ghost use Rattle.sources.specs.Meaning.{Meaning};
@@ -55,7 +54,7 @@ pub struct Closed {
 }
 
 impl<'a> Bare<'a> {
-    ghost use Rattle.sheetfile.specs.States.{headed_by, stand};
+    ghost use Rattle.sheetfile.specs.States.{first_heading, headed_by, stand};
 
     /// A loader of some bytes.
     pub fn new(bytes: &'a [u8]) -> Bare<'a>
@@ -66,9 +65,10 @@ impl<'a> Bare<'a> {
 
     /// Reads the heading, and writes start 0.
     pub fn read_heading(self, starts: &mut [usize]) -> Result<Headed<'a>, Refused<Bare<'a>>>
-        ensures answer { result_map_both stand (λ e. e) result ≡ headed_by self.entry (heading_in self.entry.bytes.now (length starts.old)) }
-        ensures starts { starts.new ≡ updated (heading_in self.entry.bytes.now (length starts.old)) starts.old (λ _. slice_set starts.old 0 0) }
-        ensures every { (m : Meaning) → SheetFile self.entry.bytes.now m → m.carriers + 1 ≤ length starts.old → IsOkAnd result (λ l. l.heading ≡ heading_of m) }
+        ensures answer { result_map_both stand (λ e. e) result ≡ headed_by self.entry (first_heading self.entry (length starts.old)) }
+        ensures starts { starts.new ≡ updated (first_heading self.entry (length starts.old)) starts.old (λ _. slice_set starts.old 0 0) }
+        ensures every { (m : Meaning) → SheetFile self.entry.bytes.now m → m.carriers + 1 ≤ length starts.old
+            → IsOkAnd result (λ l. l.heading ≡ heading_of m) }
         ensures held { IfOk result (λ _. (m : Meaning) (entries : List Entry) → HoldsRows m 0 starts.new entries) }
     {
         let mut reader = Reader::new(self.bytes);
@@ -113,7 +113,8 @@ impl<'a> Headed<'a> {
     pub fn read_row(&mut self, starts: &mut [usize], entries: &mut [Entry]) -> Result<(), Fault>
         ensures answer { result ≡ without_value (next_row (stand self.old) (length starts.old) (length entries.old)) }
         ensures after { RowRead (stand self.old) (stand self.new) starts.old starts.new entries.old entries.new }
-        ensures file { (m : Meaning) → SheetFile self.old.reader.bytes.now m → ReadsInOrder m (stand self.old) starts.old entries.old result starts.new entries.new }
+        ensures file { (m : Meaning) → SheetFile self.old.reader.bytes.now m
+            → ReadsInOrder m (stand self.old) starts.old entries.old result starts.new entries.new }
     {
         let count = self.next_row(starts.len(), entries.len())?;
         // A row without entries needs no place, even in a table that ends before the rows that were read.

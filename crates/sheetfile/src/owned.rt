@@ -2,6 +2,7 @@
 ghost use Rattle.std.specs.Prelude.{◌≡◌, length};
 ghost use Rattle.sources.specs.Meaning.{empty_meaning};
 ghost use Rattle.sources.specs.OfSheet.{sheet_meaning};
+ghost use Rattle.sheetfile.specs.Limits.{most_starts};
 ghost use Rattle.sheetfile.specs.Reading.{loaded};
 ghost use Rattle.sheetfile.specs.Steps.{updated, without_value};
 ghost use Rattle.sheetfile.specs.Tables.{sheet_held};
@@ -37,9 +38,9 @@ impl<const ENTRIES: usize> OwnTables<ENTRIES> {
 
     /// Loads a whole file: they then hold its sheet. Refused as `load` is; they then hold the sheet that they held.
     pub fn load(&mut self, bytes: &[u8]) -> Result<(), Fault>
-        ensures answer { result ≡ without_value (loaded bytes.now 129 ENTRIES) }
+        ensures answer { result ≡ without_value (loaded bytes.now most_starts ENTRIES) }
         ensures holds { let held = sheet_held self.old.heading self.old.starts self.old.entries in
-            sheet_held self.new.heading self.new.starts self.new.entries ≡ updated (loaded bytes.now 129 ENTRIES) held (λ m. m) }
+            sheet_held self.new.heading self.new.starts self.new.entries ≡ updated (loaded bytes.now most_starts ENTRIES) held (λ m. m) }
     {
         // Where no sheet is held that a refused load would have to leave, one reading does.
         self.heading = if self.heading.carriers == 0 {

@@ -12,7 +12,7 @@ use sources::form::{Entry, Heading};
 use std::ops::RangeBounds;
 
 // Bytes, and the place in them where the next part begins, which refusals tell. A read that is refused leaves it where
-// it was. Numbers become jobs and counts by `as`: the check proves that no bits are lost.
+// it was.
 #[derive(Clone, Copy)]
 pub(crate) struct Reader<'a> {
     bytes: &'a [u8],
@@ -39,7 +39,8 @@ impl<'a> Reader<'a> {
     // A number within a range. One outside of it is refused with a fault.
     fn number_in<R: RangeBounds<u64>>(&mut self, range: R, fault: Fault) -> Result<u64, Fault>
         requires { R.has_bounds range }
-        ensures { Reads self.old result self.new (number_from self.old.bytes.now (bounded_by (R.start_bound range) (R.end_bound range)) fault self.old.at) }
+        ensures { let within = bounded_by (R.start_bound range) (R.end_bound range) in
+            Reads self.old result self.new (number_from self.old.bytes.now within fault self.old.at) }
     {
         let mut ahead = *self;
         let number = ahead.number()?;
@@ -91,7 +92,7 @@ impl<'a> Reader<'a> {
         let mut low = 0;
         for k in 0..count {
             let (job, worth) = ahead.entry(heading, low)?;
-            // By hand: tried by get_mut and by next of iter_mut, but a proof then knows no entry of the table.
+            // By index: after `get_mut` or a `next` of `iter_mut` a proof knows no entry of the table.
             if k < table.len() {
                 table[k] = Entry { job, worth };
             }

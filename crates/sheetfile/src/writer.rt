@@ -6,6 +6,7 @@ ghost use Rattle.outputs.specs.Puts.{Puts};
 ghost use Rattle.sheetfile.specs.Laws.{WritesLoadable};
 ghost use Rattle.sheetfile.specs.Layout.{row_bytes};
 ghost use Rattle.sheetfile.specs.Writing.{nonzero, nonzero_bytes, out_after, write_answer, written};
+ghost use Rattle.sources.specs.Limits.{most_jobs, highest_ceiling};
 ghost use Rattle.sources.specs.Meaning.{row_of};
 ghost use Rattle.sources.specs.Sheets.{within_limits};
 ghost use Rattle.sources.specs.Tables.{heading_of};
@@ -17,7 +18,7 @@ use sources::asking::{entries, heading_of};
 use sources::checks::within_limits;
 use sources::source::Source;
 
-// Puts a number. Jobs and counts become numbers by `as`: the check proves that no bits are lost.
+// Puts a number.
 fn put_number(output: &mut Output<'_>, n: u64)
     requires { n < 2 ^ 42 }
     ensures { Puts output.old output.new (encoded n) }
@@ -51,8 +52,8 @@ fn row_count<S: Source>(source: &S, carrier: usize) -> usize
 
 // Puts a row: its count, and its entries that are worth something. It gives the count.
 fn put_row<S: Source>(source: &S, carrier: usize, output: &mut Output<'_>) -> usize
-    requires jobs { (S.Source.meaning source.now).jobs ≤ 256 }
-    requires ceiling { (S.Source.meaning source.now).ceiling ≤ 2 ^ 36 }
+    requires jobs { (S.Source.meaning source.now).jobs ≤ most_jobs }
+    requires ceiling { (S.Source.meaning source.now).ceiling ≤ highest_ceiling }
     ensures count { result ≡ length (nonzero (row_of (S.Source.meaning source.now) carrier)) }
     ensures row { Puts output.old output.new (row_bytes (nonzero (row_of (S.Source.meaning source.now) carrier))) }
 {
@@ -84,7 +85,8 @@ fn put_file<S: Source>(source: &S, output: &mut Output<'_>)
 fn write_file<S: Source>(source: &S, out: &mut [u8]) -> usize
     requires { within_limits (heading_of (S.Source.meaning source.now)) ≡ true }
     ensures long { result ≡ length (written (S.Source.meaning source.now)) }
-    ensures after { length (written (S.Source.meaning source.now)) ≤ length out.old → out.new ≡ over out.old 0 (written (S.Source.meaning source.now)) }
+    ensures after { let file = written (S.Source.meaning source.now) in
+        length file ≤ length out.old → out.new ≡ over out.old 0 file }
 {
     let mut output = Output::new(out);
     put_file(source, &mut output);
