@@ -182,7 +182,7 @@ module _ (m : Meaning) (sound : Sound m) (depth budget : ℕ) (old new : Books) 
 
 -- From books that calls lead to, an accepted run is made of summonses, looks and settles.
 pub run_is_made : (m : Meaning) → Sound m → (depth budget : ℕ) (o : Option Books) (old new : Books) (r : Result Report Refusal) → o ≡ Some old → Reached m (tally_of o) →
-    Ruled (run_answer depth budget) (run_tally depth budget) m (Some old) (Some new) r → IfOk r (λ p. Between (λ t u. MadeOf m depth t u p) (tally_of o) (tally_of (Some new)))
+    Ruled (run_answer depth budget) (run_tally depth budget) m (Some old) (Some new) r → IfOk r (λ p. Between (λ t u. MadeOf m depth t u p) o (Some new))
 run_is_made m sound depth budget o old new (Ok p) found reached ruled = record {
   before = tally_in old;
   after = tally_in new;

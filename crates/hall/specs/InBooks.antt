@@ -19,9 +19,9 @@ abbrev pub tally_of : Option Books → Option Tally
 tally_of books = option_map tally_in books
 
 -- There was a tally before, there is one after, and the relation holds of the two.
-pub record Between (relation : Tally → Tally → Type 0) (old new : Option Tally) : Type 0 where
+pub record Between (relation : Tally → Tally → Type 0) (old new : Option Books) : Type 0 where
   pub before : Tally
   pub after : Tally
-  pub was : old ≡ Some before
-  pub is : new ≡ Some after
+  pub was : tally_of old ≡ Some before
+  pub is : tally_of new ≡ Some after
   pub holds : relation before after

@@ -1,5 +1,6 @@
 -- What the books' fields keep true: the tally that they hold is consistent, so that no price and no count passes 64 bits.
 use Rattle.std.specs.Prelude.{◌≡◌, ℕ, List, map, length, take, None, Option}
+use Rattle.sources.specs.Limits.{most_carriers, most_jobs}
 use Rattle.sources.specs.declared.form.Heading.{Heading}
 use Rattle.auction.specs.declared.standing.Counts.{Counts}
 use Rattle.auction.specs.declared.standing.Standing.{Standing}
@@ -29,6 +30,6 @@ tally_held noted step lanes lots standings counts = record {
 }
 
 pub record Kept (noted : Heading) (step lanes : ℕ) (lots : List Lot) (standings : List Standing) (counts : Counts) : Type 0 where
-  pub lots_long : length lots ≡ 256
-  pub standings_long : length standings ≡ 128
+  pub lots_long : length lots ≡ most_jobs
+  pub standings_long : length standings ≡ most_carriers
   pub consistent : Consistent noted.carriers noted.jobs noted.ceiling (tally_held noted step lanes lots standings counts)

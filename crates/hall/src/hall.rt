@@ -45,7 +45,8 @@ impl<S: Source> Hall<S> {
     /// Begins an auction, or begins anew: no job costs anything or has a holder, every carrier waits, and nothing is counted yet.
     /// Refused, in this order: counts of the source outside the limits, step outside 1 to 2^36, lanes outside 1 to 32.
     pub fn start(&mut self, step: u64, lanes: usize) -> Result<(), Refusal>
-        ensures ruled { Ruled (λ m _. start_answer step lanes m) (start_tally step lanes) (S.meaning self.old.source) self.old.books self.new.books result }
+        ensures ruled { let m = S.meaning self.old.source in
+            Ruled (λ m _. start_answer step lanes m) (start_tally step lanes) m self.old.books self.new.books result }
         ensures kept { self.new.source ≡ self.old.source }
     {
         check_start(&self.source, step, lanes)?;
@@ -56,7 +57,8 @@ impl<S: Source> Hall<S> {
     /// Opens a bid for a carrier that waits; none of its row is looked at yet.
     /// Refused, in this order: never started, carrier number too large, not waiting.
     pub fn summon(&mut self, carrier: usize) -> Result<(), Refusal>
-        ensures ruled { Ruled (summon_answer carrier) (summon_tally carrier) (S.meaning self.old.source) self.old.books self.new.books result }
+        ensures ruled { let m = S.meaning self.old.source in
+            Ruled (summon_answer carrier) (summon_tally carrier) m self.old.books self.new.books result }
         ensures kept { self.new.source ≡ self.old.source }
     {
         self.books
@@ -69,7 +71,7 @@ impl<S: Source> Hall<S> {
     /// Refused, in this order: never started, carrier number too large, no open bid, row fully looked at.
     pub fn look(&mut self, carrier: usize) -> Result<(), Refusal>
         ensures ruled { Ruled (look_answer carrier) (look_tally carrier) (S.meaning self.old.source) self.old.books self.new.books result }
-        ensures looks { OnOk result (Between (Looks (S.meaning self.old.source) carrier) (tally_of self.old.books) (tally_of self.new.books)) }
+        ensures looks { OnOk result (Between (Looks (S.meaning self.old.source) carrier) self.old.books self.new.books) }
         ensures kept { self.new.source ≡ self.old.source }
     {
         self.books
@@ -81,7 +83,8 @@ impl<S: Source> Hall<S> {
     /// Ends a carrier's open bid once its whole row is looked at: out, stale or awarded.
     /// Refused, in this order: never started, carrier number too large, no open bid, entries not looked at.
     pub fn settle(&mut self, carrier: usize) -> Result<Verdict, Refusal>
-        ensures ruled { Ruled (settle_answer carrier) (settle_tally carrier) (S.meaning self.old.source) self.old.books self.new.books result }
+        ensures ruled { let m = S.meaning self.old.source in
+            Ruled (settle_answer carrier) (settle_tally carrier) m self.old.books self.new.books result }
         ensures kept { self.new.source ≡ self.old.source }
     {
         self.books
@@ -93,9 +96,10 @@ impl<S: Source> Hall<S> {
     /// Makes summonses, looks and settles by its rule, until nobody waits or bids or the budget is used up, and answers how many of each it made.
     /// Refused, in this order: never started, depth outside 1 to 128.
     pub fn run(&mut self, depth: usize, budget: u64) -> Result<Report, Refusal>
-        ensures ruled { Ruled (run_answer depth budget) (run_tally depth budget) (S.meaning self.old.source) self.old.books self.new.books result }
-        ensures reported { IfOk result (λ p. Between (λ t u. Reports budget t u p) (tally_of self.old.books) (tally_of self.new.books)) }
-        ensures made { IfOk result (λ p. Between (λ t u. MadeOf (S.meaning self.old.source) depth t u p) (tally_of self.old.books) (tally_of self.new.books)) }
+        ensures ruled { let m = S.meaning self.old.source in
+            Ruled (run_answer depth budget) (run_tally depth budget) m self.old.books self.new.books result }
+        ensures reported { IfOk result (λ p. Between (λ t u. Reports budget t u p) self.old.books self.new.books) }
+        ensures made { IfOk result (λ p. Between (λ t u. MadeOf (S.meaning self.old.source) depth t u p) self.old.books self.new.books) }
         ensures kept { self.new.source ≡ self.old.source }
     {
         self.books

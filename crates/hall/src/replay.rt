@@ -17,7 +17,8 @@ impl<S: Source> Hall<S> {
     ) -> Result<(), Refusal>
         ensures kept { self.new.source ≡ self.old.source }
         ensures fits { result ≡ (if nat_le (length calls.now) (length answers.old) then Ok tt else Err Refusal.TooShort) }
-        ensures performed { is_ok result ≡ true → Performed (S.meaning self.old.source) calls.now answers.old answers.new (tally_of self.old.books) (tally_of self.new.books) }
+        ensures performed { is_ok result ≡ true →
+            Performed (S.meaning self.old.source) calls.now answers.old answers.new (tally_of self.old.books) (tally_of self.new.books) }
         ensures refused { is_ok result ≡ false → (answers.new ≡ answers.old) × (self.new ≡ self.old) }
     {
         if calls.len() > answers.len() {

@@ -2,21 +2,24 @@
 //! borrows would be a second hall.
 ghost use Rattle.std.specs.Prelude.{◌≡◌, ℕ, ◌^◌, ◌<◌, ◌≤◌, false, length, take, is_ok, Some, None, IfOk, OnOk, slice_index};
 ghost use Rattle.std.specs.Result.{result_map_both};
+ghost use Rattle.sources.specs.Limits.{most_carriers, most_jobs, highest_ceiling};
 ghost use Rattle.sources.specs.Meaning.{Meaning, row_of};
 ghost use Rattle.auction.specs.Bids.{looked_on, judged, best_worth};
 ghost use Rattle.auction.specs.Consistent.{Limits};
+ghost use Rattle.auction.specs.Limits.{highest_step};
 ghost use Rattle.auction.specs.Looks.{Looks};
-ghost use Rattle.auction.specs.Rules.{opened, start_answer, start_tally, bid_after, bid_at, called, summon_answer, summon_tally, look_answer, look_tally, freed, verdict_in, ended, settle_answer, settle_tally};
+ghost use Rattle.auction.specs.Rules.{opened, start_answer, start_tally, bid_at, called, summon_answer, summon_tally, look_answer, look_tally, freed, verdict_in, ended, settle_answer, settle_tally};
 ghost use Rattle.auction.specs.Standings.{BidSound};
 ghost use Rattle.auction.specs.Tally.{standing_at};
 ghost use Rattle.hall.specs.Kept.{prices_of, holders_of};
 ghost use Rattle.hall.specs.InBooks.{NotedOf, tally_in};
 ghost use Rattle.hall.specs.Ruled.{Ruled};
-ghost use Rattle.hall.specs.Steps.{counts_after, standing_after, counts_ended, standing_ended};
+ghost use Rattle.hall.specs.Steps.{counts_after, standing_after, counts_ended, standing_ended, bid_from};
 
 use super::glance::Glance;
 use super::{Books, Lot};
 use crate::weighing::{Seen, best_worth, merged};
+use auction::limits::{HIGHEST_STEP, MOST_LANES};
 use auction::standing::{Act, Award, Bid, Counts, Held, Standing, Verdict};
 use refusals::Refusal;
 use sources::asking::{heading_of, row_length};
@@ -29,9 +32,9 @@ pub(crate) fn check_start<S: Source>(source: &S, step: u64, lanes: usize) -> Res
 {
     if !within_limits(heading_of(source)) {
         Err(Refusal::CountsOutside)
-    } else if !(1..=1 << 36).contains(&step) {
+    } else if !(1..=HIGHEST_STEP).contains(&step) {
         Err(Refusal::StepOutside)
-    } else if !(1..=32).contains(&lanes) {
+    } else if !(1..=MOST_LANES).contains(&lanes) {
         Err(Refusal::LanesOutside)
     } else {
         Ok(())
@@ -100,10 +103,10 @@ fn respond<S: Source>(
     counts: &mut Counts,
     act: Act,
 ) -> Result<Bid, Refusal>
-    requires few_jobs { (S.meaning source.now).jobs ≤ 256 }
+    requires few_jobs { (S.meaning source.now).jobs ≤ most_jobs }
     requires low_prices { (j : ℕ) → slice_index (take (S.meaning source.now).jobs (prices_of lots.now)) j ≤ 2 ^ 37 }
     requires few_summonses { counts.old.summonses ≤ 2 ^ 53 }
-    ensures answered { result ≡ bid_after lanes (take (S.meaning source.now).jobs (prices_of lots.now)) (row_of (S.meaning source.now) carrier) standing.old act }
+    ensures answered { result ≡ bid_from (S.meaning source.now) lanes lots.now carrier standing.old act }
     ensures stood { standing.new ≡ standing_after standing.old result }
     ensures numbered { counts.new ≡ counts_after act counts.old result }
 {
@@ -143,8 +146,8 @@ fn respond<S: Source>(
 
 // What becomes of a bid at these prices.
 fn judge(step: u64, lots: &[Lot; MOST_JOBS], bid: Bid) -> Verdict
-    requires low_step { step ≤ 2 ^ 36 }
-    requires sound { BidSound 256 (2 ^ 36) bid.runner_up bid.best }
+    requires low_step { step ≤ highest_step }
+    requires sound { BidSound most_jobs highest_ceiling bid.runner_up bid.best }
     ensures { result ≡ judged step (prices_of lots.now) (holders_of lots.now) bid }
 {
     let Some(best) = bid.best else {
@@ -205,7 +208,7 @@ fn conclude(
 
 // A carrier that lost its job waits.
 fn free(standings: &mut [Standing; MOST_CARRIERS], former: Option<usize>)
-    requires { (i : ℕ) → former ≡ Some i → i < 128 }
+    requires { (i : ℕ) → former ≡ Some i → i < most_carriers }
     ensures { standings.new ≡ freed standings.old former }
 {
     if let Some(former) = former {

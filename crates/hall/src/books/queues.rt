@@ -3,6 +3,7 @@ ghost use Rattle.std.specs.Prelude.{◌≡◌, ◌<◌, ◌&&◌, [], ◌∷◌,
 ghost use Rattle.std.specs.Option.{option_to_list};
 ghost use Rattle.rings.specs.Held.{held, room};
 ghost use Rattle.auction.specs.Standings.{in_flight};
+ghost use Rattle.sources.specs.Limits.{most_carriers};
 
 use auction::standing::{Ending, InFlight};
 use rings::Ring;
@@ -12,15 +13,15 @@ use rings::Ring;
 pub(super) struct Queues<'a> {
     line: Ring<'a, usize>,
     flight: Ring<'a, InFlight>,
-    ghost line_room: { room line ≡ 128 },
-    ghost flight_room: { room flight ≡ 128 },
+    ghost line_room: { room line ≡ most_carriers },
+    ghost flight_room: { room flight ≡ most_carriers },
 }
 
 impl<'a> Queues<'a> {
     // Nobody is in line or flight.
     pub(super) fn new(line: &'a mut [usize], flight: &'a mut [InFlight]) -> Self
-        requires line_places { length line.old ≡ 128 }
-        requires flight_places { length flight.old ≡ 128 }
+        requires line_places { length line.old ≡ most_carriers }
+        requires flight_places { length flight.old ≡ most_carriers }
         ensures nobody_waits { held result.line ≡ [] }
         ensures nobody_bids { held result.flight ≡ [] }
     {
@@ -72,7 +73,7 @@ impl<'a> Queues<'a> {
 
     // A carrier joins the line's end.
     pub(super) fn join_line(&mut self, carrier: usize)
-        requires { length (held self.old.line) < 128 }
+        requires { length (held self.old.line) < most_carriers }
         ensures waits { held self.new.line ≡ held self.old.line ++ carrier ∷ [] }
         ensures bids { held self.new.flight ≡ held self.old.flight }
     {
@@ -81,7 +82,7 @@ impl<'a> Queues<'a> {
 
     // A carrier joins the flight's end, with the looks that it has left.
     pub(super) fn join_flight(&mut self, carrier: usize, looks_left: usize)
-        requires { length (held self.old.flight) < 128 }
+        requires { length (held self.old.flight) < most_carriers }
         ensures waits { held self.new.line ≡ held self.old.line }
         ensures bids { held self.new.flight ≡ held self.old.flight ++ in_flight carrier looks_left ∷ [] }
     {

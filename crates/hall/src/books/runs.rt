@@ -3,6 +3,8 @@ ghost use Rattle.std.specs.Prelude.{◌≡◌, ◌+◌, ◌<◌, ◌≤◌, true
 ghost use Rattle.rings.specs.Held.{held};
 ghost use Rattle.auction.specs.Standings.{looks_for};
 ghost use Rattle.auction.specs.Runs.{since, beginning, waits_after, first_acts, step_by, one_step, many_steps, Reports, run_answer, run_tally};
+ghost use Rattle.sources.specs.Limits.{most_carriers, most_jobs};
+ghost use Rattle.auction.specs.Limits.{most_lanes};
 ghost use Rattle.auction.specs.InOrder.{Ordered, Grown};
 ghost use Rattle.hall.specs.InBooks.{NotedOf, tally_in};
 ghost use Rattle.hall.specs.Ruled.{Ruled};
@@ -10,6 +12,7 @@ ghost use Rattle.hall.specs.RunSteps.{state_of, Became};
 
 use super::Books;
 use super::queues::Queues;
+use auction::limits::GREATEST_DEPTH;
 use auction::standing::{Counts, InFlight, Report, Standing, Verdict};
 use refusals::Refusal;
 use sources::asking::row_length;
@@ -19,8 +22,8 @@ use sources::source::Source;
 // How many looks go through so many entries.
 fn looks_for(lanes: usize, entries: usize) -> usize
     requires some { 1 ≤ lanes }
-    requires few { lanes ≤ 32 }
-    requires short { entries ≤ 256 }
+    requires few { lanes ≤ most_lanes }
+    requires short { entries ≤ most_jobs }
     ensures { result ≡ looks_for lanes entries }
 {
     // Most rows of small sheets go through one look: a division takes longer than the test.
@@ -59,8 +62,9 @@ impl Books {
     // Summons a carrier that was first in line, and is then last in flight.
     fn summon_first<S: Source>(&mut self, source: &S, carrier: usize, queues: &mut Queues<'_>)
         requires noted { NotedOf (S.meaning source.now) self.old }
-        requires place { length (held queues.old.flight) < 128 }
-        ensures { Became (S.meaning source.now) (λ n. step_by (S.meaning source.now) true (carrier ∷ held queues.old.line) (held queues.old.flight) (tally_in self.old) n) self.new queues.new }
+        requires place { length (held queues.old.flight) < most_carriers }
+        ensures { let m = S.meaning source.now in let line = held queues.old.line in let flight = held queues.old.flight in
+            Became m (λ n. step_by m true (carrier ∷ line) flight (tally_in self.old) n) self.new queues.new }
     {
         let looks_left = looks_for(self.lanes, row_length(source, carrier));
         let _ = self.summon(source, carrier);
@@ -70,9 +74,10 @@ impl Books {
     // A carrier that was first in flight acts: it looks if it has looks left, and is then last in flight; or else it settles, and whoever waits because of that is last in line.
     fn first_acts<S: Source>(&mut self, source: &S, first: InFlight, queues: &mut Queues<'_>)
         requires noted { NotedOf (S.meaning source.now) self.old }
-        requires line_place { length (held queues.old.line) < 128 }
-        requires flight_place { length (held queues.old.flight) < 128 }
-        ensures { Became (S.meaning source.now) (λ n. first_acts (S.meaning source.now) first.carrier first.looks_left (held queues.old.line) (held queues.old.flight) (tally_in self.old) n) self.new queues.new }
+        requires line_place { length (held queues.old.line) < most_carriers }
+        requires flight_place { length (held queues.old.flight) < most_carriers }
+        ensures { let m = S.meaning source.now in let line = held queues.old.line in let flight = held queues.old.flight in
+            Became m (λ n. first_acts m first.carrier first.looks_left line flight (tally_in self.old) n) self.new queues.new }
     {
         if first.looks_left > 0 {
             let _ = self.look(source, first.carrier);
@@ -92,7 +97,8 @@ impl Books {
         requires ordered { Ordered (S.meaning source.now) (state_of self.old queues.old 0) }
         requires busy { 0 < length (held queues.old.line) + length (held queues.old.flight) }
         requires deep { 1 ≤ depth }
-        ensures { Became (S.meaning source.now) (λ n. one_step (S.meaning source.now) depth (state_of self.old queues.old n)) self.new queues.new }
+        ensures { let m = S.meaning source.now in
+            Became m (λ n. one_step m depth (state_of self.old queues.old n)) self.new queues.new }
     {
         if let Some(carrier) = queues.next_to_summon(depth) {
             self.summon_first(source, carrier, queues);
@@ -132,7 +138,8 @@ impl Books {
         requires ordered { Ordered (S.meaning source.now) (state_of self.old queues.old 0) }
         requires deep { 1 ≤ depth }
         ensures ready { NotedOf (S.meaning source.now) self.new }
-        ensures made { state_of self.new queues.new result ≡ many_steps (S.meaning source.now) depth budget (state_of self.old queues.old 0) }
+        ensures made { let m = S.meaning source.now in
+            state_of self.new queues.new result ≡ many_steps m depth budget (state_of self.old queues.old 0) }
         ensures ordered { Ordered (S.meaning source.now) (state_of self.new queues.new 0) }
         ensures grown { Grown self.old.counts self.new.counts }
     {
@@ -154,10 +161,11 @@ impl Books {
     ) -> Result<Report, Refusal>
         requires { NotedOf (S.meaning source.now) self.old }
         ensures noted { NotedOf (S.meaning source.now) self.new }
-        ensures ruled { Ruled (run_answer depth budget) (run_tally depth budget) (S.meaning source.now) (Some self.old) (Some self.new) result }
+        ensures ruled { let m = S.meaning source.now in
+            Ruled (run_answer depth budget) (run_tally depth budget) m (Some self.old) (Some self.new) result }
         ensures reported { IfOk result (λ p. Reports budget (tally_in self.old) (tally_in self.new) p) }
     {
-        if !(1..=128).contains(&depth) {
+        if !(1..=GREATEST_DEPTH).contains(&depth) {
             return Err(Refusal::DepthOutside);
         }
         let before = self.counts;
