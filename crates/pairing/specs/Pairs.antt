@@ -22,9 +22,26 @@ use Rattle.auction.specs.Calls.{tally_after}
 use Rattle.auction.specs.Laws.{Among, Pairing, pairing_of, worth}
 use Rattle.pairing.specs.Listing.{listing, refused_line}
 
--- Step 1 and lanes 8; depth 8 and budget 1,000,000.
+-- The most bytes of a listing: 64 for each of 128 carriers, and 128.
+abbrev pub most_text : ℕ
+most_text = 8320
+
+-- The figures of the auction of every sheet.
+abbrev pub pair_step : ℕ
+pair_step = 1
+
+abbrev pub pair_lanes : ℕ
+pair_lanes = 8
+
+abbrev pub pair_depth : ℕ
+pair_depth = 8
+
+abbrev pub pair_budget : ℕ
+pair_budget = 1000000
+
+-- A start and a run.
 abbrev pub two_calls : List Call
-two_calls = Start 1 8 ∷ (Run 8 1000000 ∷ [])
+two_calls = Start pair_step pair_lanes ∷ (Run pair_depth pair_budget ∷ [])
 
 -- The sheet under times (carriers + 1).
 abbrev pub timed : Meaning → Meaning
@@ -39,9 +56,13 @@ abbrev pub listing_after : Meaning → Option Tally → Result (List ℕ) Refusa
 listing_after m None = Err CountsOutside
 listing_after m (Some t) = Ok (listing m t.standings t.counts)
 
+-- The listing of a sheet, or why there is none.
+abbrev pub listed_of : Meaning → Result (List ℕ) Refusal
+listed_of m = listing_after m (auctioned m)
+
 abbrev pub listed_after : Result Meaning Fault → Result (List ℕ) Refusal
 listed_after (Err f) = Err f.refusal
-listed_after (Ok m) = listing_after m (auctioned m)
+listed_after (Ok m) = listed_of m
 
 -- The listing of a sheet file, or why there is none.
 abbrev pub listed : List ℕ → Result (List ℕ) Refusal

@@ -2,6 +2,7 @@
 ghost use Rattle.std.specs.Prelude.{◌≡◌, ◌≤◌, length, OnOk};
 ghost use Rattle.pairing.specs.Held.{HeldUnderTimes};
 ghost use Rattle.pairing.specs.Pairs.{Ends, auctioned};
+ghost use Rattle.sources.specs.Limits.{most_carriers};
 
 use auction::call::{Answer, Call};
 use auction::standing::{Counts, Standing};
@@ -10,26 +11,37 @@ use refusals::Refusal;
 use sources::source::Source;
 use sources::times::Times;
 
+// The figures of the auction of every sheet.
+const PAIR_STEP: u64 = 1;
+
+const PAIR_LANES: usize = 8;
+
+const PAIR_DEPTH: usize = 8;
+
+const PAIR_BUDGET: u64 = 1_000_000;
+
 // Puts times (carriers + 1) on the sheet, starts, runs, and notes every carrier's standing. It gives the counts, or why the start was refused.
 pub(crate) fn hold_auction<S: Source>(
     source: &S,
     standings: &mut [Standing],
 ) -> Result<Counts, Refusal>
-    requires few { length standings.old ≤ 128 }
+    requires few { length standings.old ≤ most_carriers }
     requires each { length standings.old ≡ (S.Source.meaning source.now).carriers }
     ensures ends { Ends (auctioned (S.Source.meaning source.now)) result standings.new }
     ensures timed { OnOk result (HeldUnderTimes (S.Source.meaning source.now) standings.new) }
 {
     let times = Times {
         below: source,
-        // By `as`: the check proves that no bits are lost.
         factor: standings.len() as u32 + 1,
     };
     let calls = [
-        Call::Start { step: 1, lanes: 8 },
+        Call::Start {
+            step: PAIR_STEP,
+            lanes: PAIR_LANES,
+        },
         Call::Run {
-            depth: 8,
-            budget: 1_000_000,
+            depth: PAIR_DEPTH,
+            budget: PAIR_BUDGET,
         },
     ];
     let mut answers = [Ok(Answer::Accepted); 2];

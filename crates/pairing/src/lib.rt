@@ -6,7 +6,9 @@ ghost use Rattle.std.specs.Result.{result_err};
 ghost use Rattle.numbers.specs.Writing.{over};
 ghost use Rattle.outputs.specs.Puts.{Puts};
 ghost use Rattle.pairing.specs.Listing.{refused_line};
-ghost use Rattle.pairing.specs.Pairs.{AtMost, ListsFile, auctioned, fitted, listed, listed_within, listing_after, printed, put_into, sized};
+ghost use Rattle.pairing.specs.Pairs.{AtMost, ListsFile, fitted, listed, listed_within, printed, put_into, sized, listed_of, most_text};
+ghost use Rattle.sheetfile.specs.Limits.{most_entries};
+ghost use Rattle.sources.specs.Limits.{most_carriers};
 
 use crate::auctioning::hold_auction;
 use crate::listing::Ended;
@@ -36,7 +38,7 @@ pub fn list_pairs(sheet: &[u8], out: &mut [u8]) -> Result<usize, Refusal>
     ensures answer { result ≡ sized (listed_within sheet.now (length out.old)) }
     ensures after { out.new ≡ put_into out.old (listed_within sheet.now (length out.old)) }
     ensures paired { (text : List ℕ) → listed sheet.now ≡ Ok text → ListsFile sheet.now text }
-    ensures short { AtMost 8320 (listed sheet.now) }
+    ensures short { AtMost most_text (listed sheet.now) }
 {
     // A smaller table where it suffices, since it takes longer to fill a large one with zeros than to pair a small sheet.
     match sheet.len() {
@@ -50,10 +52,10 @@ pub fn list_pairs(sheet: &[u8], out: &mut [u8]) -> Result<usize, Refusal>
 // The same with a table of so many entries. A file has at most one for each two of its bytes.
 // Tables of a fixed size, here and below: no heap is used, since C calls it.
 fn list_in<const ENTRIES: usize>(sheet: &[u8], out: &mut [u8]) -> Result<usize, Refusal>
-    requires room { ENTRIES ≡ 4096 ⊎ (length sheet.now ≤ 2 * ENTRIES) × (ENTRIES ≤ 4096) }
+    requires room { ENTRIES ≡ most_entries ⊎ (length sheet.now ≤ 2 * ENTRIES) × (ENTRIES ≤ most_entries) }
     ensures answer { result ≡ sized (listed_within sheet.now (length out.old)) }
     ensures after { out.new ≡ put_into out.old (listed_within sheet.now (length out.old)) }
-    ensures short { AtMost 8320 (listed sheet.now) }
+    ensures short { AtMost most_text (listed sheet.now) }
 {
     let mut tables = OwnTables::<ENTRIES>::new();
     load_within(sheet, &mut tables).map_err(|fault| fault.refusal)?;
@@ -62,10 +64,10 @@ fn list_in<const ENTRIES: usize>(sheet: &[u8], out: &mut [u8]) -> Result<usize, 
 
 // The same of a sheet that is loaded.
 fn list_source<S: Source>(source: &S, out: &mut [u8]) -> Result<usize, Refusal>
-    requires { (S.Source.meaning source.now).carriers ≤ 128 }
-    ensures answer { result ≡ sized (fitted (length out.old) (listing_after (S.Source.meaning source.now) (auctioned (S.Source.meaning source.now)))) }
-    ensures after { out.new ≡ put_into out.old (fitted (length out.old) (listing_after (S.Source.meaning source.now) (auctioned (S.Source.meaning source.now)))) }
-    ensures short { AtMost 8320 (listing_after (S.Source.meaning source.now) (auctioned (S.Source.meaning source.now))) }
+    requires { (S.Source.meaning source.now).carriers ≤ most_carriers }
+    ensures answer { result ≡ sized (fitted (length out.old) (listed_of (S.Source.meaning source.now))) }
+    ensures after { out.new ≡ put_into out.old (fitted (length out.old) (listed_of (S.Source.meaning source.now))) }
+    ensures short { AtMost most_text (listed_of (S.Source.meaning source.now)) }
 {
     let mut places = [Standing::Waiting; MOST_CARRIERS];
     let standings = &mut places[..source.carriers()];

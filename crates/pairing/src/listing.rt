@@ -6,6 +6,8 @@ ghost use Rattle.auction.specs.Laws.{worth};
 ghost use Rattle.outputs.specs.Puts.{Puts};
 ghost use Rattle.pairing.specs.Listing.{carrier_line, carrier_lines, last_line, listing as listing_of, standing_text};
 ghost use Rattle.pairing.specs.Held.{HeldUnderTimes, worth_told};
+ghost use Rattle.pairing.specs.Pairs.{most_text};
+ghost use Rattle.sources.specs.Limits.{most_carriers};
 
 use crate::putting::put_number;
 use auction::standing::{Counts, Standing};
@@ -18,7 +20,7 @@ pub(crate) struct Ended<'a, S: Source> {
     pub(crate) source: &'a S,
     pub(crate) standings: &'a [Standing],
     pub(crate) counts: Counts,
-    ghost few: { length standings.now ≤ 128 },
+    ghost few: { length standings.now ≤ most_carriers },
     ghost timed: { HeldUnderTimes (S.Source.meaning source.now) standings.now },
 }
 
@@ -62,7 +64,8 @@ impl<S: Source> Ended<'_, S> {
     // Puts the line of every carrier.
     fn put_lines(&self, output: &mut Output<'_>)
         ensures puts { Puts output.old output.new (carrier_lines (S.Source.meaning self.now.source.now) 0 self.now.standings.now) }
-        ensures short { length (carrier_lines (S.Source.meaning self.now.source.now) 0 self.now.standings.now) ≤ 64 * length self.now.standings.now }
+        ensures short { let standings = self.now.standings.now in
+            length (carrier_lines (S.Source.meaning self.now.source.now) 0 standings) ≤ 64 * length standings }
     {
         for (carrier, standing) in self.standings.iter().enumerate() {
             self.put_line(carrier, *standing, output);
@@ -91,8 +94,10 @@ impl<S: Source> Ended<'_, S> {
 
     // Puts the last line.
     fn put_last(&self, output: &mut Output<'_>)
-        ensures puts { let total = worth (S.Source.meaning self.now.source.now) (map job_served self.now.standings.now) in Puts output.old output.new (last_line total self.now.counts) }
-        ensures short { let total = worth (S.Source.meaning self.now.source.now) (map job_served self.now.standings.now) in length (last_line total self.now.counts) ≤ 101 }
+        ensures puts { let total = worth (S.Source.meaning self.now.source.now) (map job_served self.now.standings.now) in
+            Puts output.old output.new (last_line total self.now.counts) }
+        ensures short { let total = worth (S.Source.meaning self.now.source.now) (map job_served self.now.standings.now) in
+            length (last_line total self.now.counts) ≤ 101 }
     {
         output.put(b"worth ");
         put_number(output, self.total_worth());
@@ -106,8 +111,9 @@ impl<S: Source> Ended<'_, S> {
     // Puts the whole listing, if there is room for it, and gives its length. With no bytes to put it to, it tells the length alone.
     pub(crate) fn put_listing(&self, out: &mut [u8]) -> usize
         ensures len { result ≡ length (listing_of (S.Source.meaning self.now.source.now) self.now.standings.now self.now.counts) }
-        ensures written { result ≤ length out.old → out.new ≡ over out.old 0 (listing_of (S.Source.meaning self.now.source.now) self.now.standings.now self.now.counts) }
-        ensures short { result ≤ 8320 }
+        ensures written { result ≤ length out.old →
+            out.new ≡ over out.old 0 (listing_of (S.Source.meaning self.now.source.now) self.now.standings.now self.now.counts) }
+        ensures short { result ≤ most_text }
     {
         let mut output = Output::new(out);
         self.put_lines(&mut output);

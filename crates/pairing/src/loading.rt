@@ -1,6 +1,7 @@
 //! A file that is loaded within the limits of the programs.
 ghost use Rattle.std.specs.Prelude.{◌≡◌, ◌*◌, ◌≤◌, ◌⊎◌, length, IfOk};
 ghost use Rattle.sheetfile.specs.Layout.{SheetFile};
+ghost use Rattle.sheetfile.specs.Limits.{most_entries};
 ghost use Rattle.sheetfile.specs.Reading.{loaded_within};
 ghost use Rattle.sheetfile.specs.Steps.{updated, without_value};
 ghost use Rattle.sheetfile.specs.Tables.{sheet_held};
@@ -15,7 +16,7 @@ pub(crate) fn load_within<const ENTRIES: usize>(
     bytes: &[u8],
     tables: &mut OwnTables<ENTRIES>,
 ) -> Result<(), Fault>
-    requires room { ENTRIES ≡ 4096 ⊎ (length bytes.now ≤ 2 * ENTRIES) × (ENTRIES ≤ 4096) }
+    requires room { ENTRIES ≡ most_entries ⊎ (length bytes.now ≤ 2 * ENTRIES) × (ENTRIES ≤ most_entries) }
     ensures answer { result ≡ without_value (loaded_within bytes.now) }
     ensures holds { let held = sheet_held tables.old.heading tables.old.starts tables.old.entries in
         sheet_held tables.new.heading tables.new.starts tables.new.entries ≡ updated (loaded_within bytes.now) held (λ m. m) }

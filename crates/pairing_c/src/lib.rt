@@ -2,7 +2,7 @@
 #![tactic(auto)]
 
 ghost use Rattle.std.specs.Prelude.{◌≡◌, ℕ, List, length, Ok};
-ghost use Rattle.pairing.specs.Pairs.{AtMost, ListsFile, listed, listed_within, put_into, signed_size};
+ghost use Rattle.pairing.specs.Pairs.{AtMost, ListsFile, listed, listed_within, most_text, put_into, signed_size};
 
 use pairing::list_pairs;
 
@@ -12,7 +12,7 @@ pub extern "C" fn torwhisk_pair(sheet: &[u8], out: &mut [u8]) -> i64
     ensures answer { result ≡ signed_size (listed_within sheet.now (length out.old)) }
     ensures after { out.new ≡ put_into out.old (listed_within sheet.now (length out.old)) }
     ensures paired { (text : List ℕ) → listed sheet.now ≡ Ok text → ListsFile sheet.now text }
-    ensures short { AtMost 8320 (listed sheet.now) }
+    ensures short { AtMost most_text (listed sheet.now) }
 {
     // By hand: C knows no Result, so the length and the refusal's number share one integer.
     match list_pairs(sheet, out) {
