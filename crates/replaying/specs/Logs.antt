@@ -58,9 +58,13 @@ unfoldable pub asked_from : ℕ → Asked → List (List ℕ) → Result Asked T
 asked_from n a [] = Ok a
 asked_from n a (line ∷ lines) = or_line n (noted_by line a) (λ b. asked_from (n + 1) b lines)
 
--- A whole log of at most 65,536 bytes; its lines are numbered from 1.
+-- The most bytes of a log.
+abbrev pub most_log_bytes : ℕ
+most_log_bytes = 65536
+
+-- A whole log; its lines are numbered from 1.
 unfoldable pub asked_in : List ℕ → Result Asked Trouble
-asked_in text = cond (nat_lt 65536 (length text)) (Err (Calls TooShort)) (asked_from 1 nothing_asked (lines_of text))
+asked_in text = cond (nat_lt most_log_bytes (length text)) (Err (Calls TooShort)) (asked_from 1 nothing_asked (lines_of text))
 
 -- What the code holds of a log.
 abbrev pub held_in : Log → Asked

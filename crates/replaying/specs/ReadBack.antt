@@ -5,7 +5,7 @@ use Rattle.auction.specs.declared.call.Call.{Call}
 use Rattle.auction.specs.declared.call.Call.TheVariants.{Start, Summon, Look, Settle, Run, PriceOf, HolderOf, StandingOf, TotalWorth, AllCounts}
 use Rattle.replaying.specs.declared.line.Said.TheVariants.{Make}
 use Rattle.replaying.specs.Lines.{said_by}
-use Rattle.replaying.specs.Logs.{asked_in, no_layers}
+use Rattle.replaying.specs.Logs.{asked_in, most_log_bytes, no_layers}
 use Rattle.auction.specs.Shown.{call_text}
 use Rattle.texts.specs.Telling.{newline}
 
@@ -29,7 +29,7 @@ plain_line c = call_text c ++ newline
 abbrev pub plain_log : List Call → List ℕ
 plain_log calls = flat_map plain_line calls
 
--- Every call's plain form says that call; and the log of any calls, if it has at most 65,536 bytes, asks for these calls under no layer.
+-- Every call's plain form says that call; and the log of any calls, if it is not too long, asks for these calls under no layer.
 pub record ReadsBack : Type 0 where
   pub call : (c : Call) → Sized c → said_by (call_text c) ≡ Some (Make c)
-  pub log : (calls : List Call) → AllByRecursion Sized calls → length (plain_log calls) ≤ 65536 → asked_in (plain_log calls) ≡ Ok (record { layers = no_layers; calls = calls })
+  pub log : (calls : List Call) → AllByRecursion Sized calls → length (plain_log calls) ≤ most_log_bytes → asked_in (plain_log calls) ≡ Ok (record { layers = no_layers; calls = calls })

@@ -34,8 +34,7 @@ fn alone(word: &[u8]) -> Option<Said>
     }
 }
 
-// What a word and a number say. A times layer has a factor below 2^32. Numbers become carriers and jobs by `as`, here and
-// below: the check proves that no bits are lost.
+// What a word and a number say. A times layer has a factor below 2^32.
 fn with_one(word: &[u8], n: u64) -> Option<Said>
     ensures { result ≡ said_of_one word.now n }
 {
@@ -87,7 +86,8 @@ fn by_words(
     second: Option<&[u8]>,
     third: Option<&[u8]>,
 ) -> Option<Said>
-    ensures { result ≡ said_with word.now (option_map (λ w. w.now) first.entry) (option_map (λ w. w.now) second.entry) (is_some third.entry) }
+    ensures { let a = option_map (λ w. w.now) first.entry in let b = option_map (λ w. w.now) second.entry in
+        result ≡ said_with word.now a b (is_some third.entry) }
 {
     match (first, second, third) {
         (None, _, _) => alone(word),

@@ -51,7 +51,8 @@ pub(crate) fn perform_layered<S: Source + Drop>(
     layers: Layers,
     calls: &[Call],
 ) -> Result<Vec<Result<Answer, Refusal>>, AllocError>
-    ensures { IfOk result (λ answers. answers.items ≡ answers_from (under layers.second (under layers.nearest (S.Source.meaning source))) None calls.now) }
+    ensures { let pile = under layers.second (under layers.nearest (S.Source.meaning source)) in
+        IfOk result (λ answers. answers.items ≡ answers_from pile None calls.now) }
 {
     let below = source;
     let Layers { nearest, second } = layers;
