@@ -29,12 +29,11 @@ impl Grid {
         ensures drawn { (result, draw.new.state) ≡ grid_drawn most draw.old.state }
         ensures within { Within most result }
     {
-        // By `as`: the check proves that no bits are lost.
         let carriers = 1 + draw.below(4) as usize;
         let jobs = 1 + draw.below(4) as usize;
         let ceiling = 1 + draw.below(most);
         let mut worths = [[0; 4]; 4];
-        // By number: after `iter_mut().take(carriers)` (tried) a proof does not know what was written.
+        // By number: after `iter_mut().take(carriers)` a proof does not know what was written.
         for (carrier, row) in worths.iter_mut().enumerate() {
             *row = draw_row(draw, carrier < carriers, jobs, ceiling);
         }
@@ -61,7 +60,8 @@ impl Grid {
     pub fn times(&self, factor: u64) -> Grid
         ensures counts { (result.carriers ≡ self.now.carriers) × (result.jobs ≡ self.now.jobs) }
         ensures ceiling { result.ceiling ≡ capped (self.now.ceiling * factor) }
-        ensures worths { (i : ℕ) → slice_index_or result.worths i [] ≡ map (λ w. capped (w * factor)) (slice_index_or self.now.worths i []) }
+        ensures worths { (i : ℕ) →
+            slice_index_or result.worths i [] ≡ map (λ w. capped (w * factor)) (slice_index_or self.now.worths i []) }
     {
         let mut worths = self.worths;
         for row in worths.iter_mut() {
@@ -91,7 +91,8 @@ impl Grid {
     pub fn only(&self, carriers: &[bool; 4]) -> Grid
         ensures counts { (result.carriers ≡ self.now.carriers) × (result.jobs ≡ self.now.jobs) }
         ensures ceiling { result.ceiling ≡ self.now.ceiling }
-        ensures worths { (i j : ℕ) → worth_at result.worths i j ≡ (if slice_index_or carriers.now i false then worth_at self.now.worths i j else 0) }
+        ensures worths { (i j : ℕ) →
+            worth_at result.worths i j ≡ (if slice_index_or carriers.now i false then worth_at self.now.worths i j else 0) }
     {
         let mut worths = self.worths;
         // By index: after a zip of `iter_mut` with the carriers a proof does not know what was written.
@@ -107,7 +108,7 @@ impl Grid {
     pub fn best(&self) -> u64
         ensures { IsBest self.now.worths result }
     {
-        // A loop: after `map(..).max()` over the numbers (tried) the check found no proof that some pairing has the largest worth.
+        // A loop: after `map(..).max()` over the numbers a proof does not know that some pairing has the largest worth.
         let mut most = 0;
         for number in 0..PAIRINGS {
             most = most.max(pairing_worth(&self.worths, number, [false; 4]).unwrap_or(0));
@@ -128,7 +129,7 @@ fn draw_row(draw: &mut Draw, there: bool, jobs: usize, ceiling: u64) -> [u64; 4]
     if !there {
         return row;
     }
-    // By number: after `iter_mut().take(jobs)` (tried) a proof does not know what was written.
+    // By number: after `iter_mut().take(jobs)` a proof does not know what was written.
     for (job, worth) in row.iter_mut().enumerate() {
         *worth = if job < jobs {
             draw_worth(draw, ceiling)

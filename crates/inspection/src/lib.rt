@@ -81,7 +81,8 @@ fn list_sheet(heap: Global, sheet: &Sheet<'_>, size: usize) -> Result<String, Al
 
 // Adds the line of a carrier to a text.
 fn append_row<S: Source>(text: &mut String, source: &S, carrier: usize) -> Result<(), AllocError>
-    ensures { OnOk result (string_bytes text.new ≡ string_bytes text.old ++ row_line carrier (row_of (S.Source.meaning source.now) carrier)) }
+    ensures { let row = row_of (S.Source.meaning source.now) carrier in
+        OnOk result (string_bytes text.new ≡ string_bytes text.old ++ row_line carrier row) }
 {
     write!(text, "{carrier}:")?;
     for (job, worth) in entries(source, carrier) {

@@ -43,7 +43,8 @@ impl<'a, T: Copy> Ring<'a, T> {
         outcomes: &mut [Outcome<T>],
     ) -> Result<(), Refusal>
         ensures fits { result ≡ (if nat_le (length moves.now) (length outcomes.old) then Ok tt else Err Refusal.TooShort) }
-        ensures performed { is_ok result ≡ true → Performed (room self.old) moves.now (held self.old) (held self.new) outcomes.old outcomes.new }
+        ensures performed { is_ok result ≡ true →
+            Performed (room self.old) moves.now (held self.old) (held self.new) outcomes.old outcomes.new }
         ensures refused { is_ok result ≡ false → (outcomes.new ≡ outcomes.old) × (self.new ≡ self.old) }
         ensures size { room self.new ≡ room self.old }
     {

@@ -57,7 +57,7 @@ pub fn priced_worth<S: Source>(
 ) -> u64
     ensures piled { result ≡ worth_of (times_of factor (floor_of floor (S.Source.meaning source.now))) carrier job }
     ensures worth { result ≡ scaled factor (floored floor (worth_of (S.Source.meaning source.now) carrier job)) }
-    ensures meaning { FloorThenTimes floor factor (S.Source.meaning source.now) (times_of factor (floor_of floor (S.Source.meaning source.now))) }
+    ensures meaning { let m = S.Source.meaning source.now in FloorThenTimes floor factor m (times_of factor (floor_of floor m)) }
 {
     let floored = Floor {
         below: source,
