@@ -1,13 +1,14 @@
 -- What is printed of calls is read back.
-use Rattle.std.proofs.Common.{◌≡◌, ℕ, ◌+◌, ◌^◌, ◌<◌, ◌≤◌, Bool, true, false, not, ◌&&◌, eqb, leb, List, [], ◌∷◌, ◌++◌, length, Some, Ok, codes, decimal, sym, refl, ap, ◌∙◌, arith}
+use Rattle.std.proofs.Common.{◌≡◌, ℕ, ◌+◌, ◌^◌, ◌<◌, ◌≤◌, Bool, true, false, not, eqb, leb, List, [], ◌∷◌, ◌++◌, length, get_or, Some, Ok, codes, decimal, sym, refl, ap, ◌∙◌, arith}
 use Rattle.std.proofs.lemmas.Fmt.{decimal_nonempty, digits_decimal, digits_value-decimal}
 use Rattle.std.proofs.lemmas.List.{append_assoc, append-nil}
 use Rattle.std.proofs.lemmas.List.Splits.{slice_split_at, slice_split_none}
 use Rattle.std.specs.Option.{option_and_then}
 use Rattle.std.proofs.lemmas.Bool.{and_from, and_parts, cond-false, le-ltb, leb-true, ne_eqb, not_from_false, not-true}
 use Rattle.std.specs.Char.{is_ascii_digit}
-use Rattle.std.specs.List.{All, AllByRecursion}
-use Rattle.std.proofs.lemmas.List.Elements.{All-cons, All-nil}
+use Rattle.std.specs.List.{All, AllByRecursion, list_all}
+use Rattle.std.proofs.lemmas.List.Folds.{list_all-append}
+use Rattle.std.proofs.lemmas.List.Sums.{AllPass-from_list_all}
 use Rattle.std.specs.Str.{all_ascii_digits}
 use Rattle.auction.specs.declared.call.Call.{Call}
 use Rattle.auction.specs.declared.call.Call.TheVariants.{Start, Summon, Look, Settle, Run, PriceOf, HolderOf, StandingOf, TotalWorth, AllCounts}
@@ -25,16 +26,13 @@ use Rattle.replaying.proofs.Values.{own, some_value}
 -- ---- parts
 
 abbrev lacks : ℕ → List ℕ → Bool
-lacks sep [] = true
-lacks sep (b ∷ bs) = not (eqb b sep) && lacks sep bs
+lacks sep bs = list_all (λ b. not (eqb b sep)) bs
 
 lacks_append : (sep : ℕ) (a b : List ℕ) → lacks sep a ≡ true → lacks sep b ≡ true → lacks sep (a ++ b) ≡ true
-lacks_append sep [] b h k = k
-lacks_append sep (x ∷ a) b h k = let p = and_parts (not (eqb x sep)) (lacks sep a) h in and_from (not (eqb x sep)) _ p.0 (lacks_append sep a b p.1 k)
+lacks_append sep a b h k = list_all-append (λ x. not (eqb x sep)) a b ∙ and_from (lacks sep a) (lacks sep b) h k
 
 lacks_all : (sep : ℕ) (w : List ℕ) → lacks sep w ≡ true → All (λ b. eqb b sep ≡ false) w
-lacks_all sep [] h = All-nil (λ b. eqb b sep ≡ false)
-lacks_all sep (b ∷ w) h = let p = and_parts (not (eqb b sep)) (lacks sep w) h in All-cons (λ x. eqb x sep ≡ false) b w (not-true (eqb b sep) p.0) (lacks_all sep w p.1)
+lacks_all sep w h k d l = not-true (eqb (get_or w k d) sep) (AllPass-from_list_all (λ b. not (eqb b sep)) w h k d l)
 
 -- a part with a separator behind it
 part_cut : (sep : ℕ) (w rest : List ℕ) → lacks sep w ≡ true → eqb sep sep ≡ true → parts_of sep (w ++ (sep ∷ rest)) ≡ w ∷ parts_of sep rest
