@@ -12,6 +12,9 @@ use sources::form::{Entry, Heading};
 use sources::sheet::Sheet;
 use three_by_three::{ENTRIES, HEADING, STARTS};
 
+// How the auctions start, but the one with a wider step.
+const START: Call = Call::Start { step: 1, lanes: 4 };
+
 // A call that runs.
 fn run(depth: usize, budget: u64) -> Call
     ensures { result ≡ Call.Run depth budget }
@@ -49,21 +52,20 @@ pub fn one_by_one() -> [Result<Answer, Refusal>; 19]
     ensures value { result ≡ answers_in one_by_one }
     ensures worked { Plays three_by_three one_by_one }
 {
-    let start = Call::Start { step: 1, lanes: 4 };
     let calls = [
-        start,
+        START,
         run(1, 3),
         Call::HolderOf(1),
         Call::PriceOf(1),
-        start,
+        START,
         run(1, 6),
         Call::HolderOf(1),
         Call::PriceOf(1),
-        start,
+        START,
         run(1, 9),
         Call::HolderOf(2),
         Call::PriceOf(2),
-        start,
+        START,
         run(1, 100),
         Call::HolderOf(0),
         Call::PriceOf(0),
@@ -81,16 +83,15 @@ pub fn three_in_flight() -> [Result<Answer, Refusal>; 16]
     ensures worked { Plays three_by_three three_in_flight }
     ensures bid { StaleBid }
 {
-    let start = Call::Start { step: 1, lanes: 4 };
     let calls = [
-        start,
+        START,
         run(3, 6),
         Call::StandingOf(2),
-        start,
+        START,
         run(3, 10),
         Call::PriceOf(1),
         Call::StandingOf(2),
-        start,
+        START,
         run(3, 100),
         Call::HolderOf(0),
         Call::HolderOf(1),
@@ -116,7 +117,7 @@ fn one_job(worth: u64) -> [Result<Answer, Refusal>; 10]
     };
     let entries = [Entry { job: 0, worth: 5 }, Entry { job: 0, worth }];
     let calls = [
-        Call::Start { step: 1, lanes: 4 },
+        START,
         run(1, 3),
         Call::HolderOf(0),
         Call::PriceOf(0),
@@ -170,7 +171,7 @@ pub fn smaller_job() -> [Result<Answer, Refusal>; 5]
     };
     let entries = [Entry { job: 0, worth: 9 }, Entry { job: 1, worth: 9 }];
     let calls = [
-        Call::Start { step: 1, lanes: 4 },
+        START,
         run(1, 100),
         Call::HolderOf(0),
         Call::PriceOf(0),
@@ -221,11 +222,6 @@ pub fn empty_row() -> [Result<Answer, Refusal>; 4]
         ceiling: 9,
     };
     let entries: [Entry; 0] = [];
-    let calls = [
-        Call::Start { step: 1, lanes: 4 },
-        Call::Summon(0),
-        Call::Settle(0),
-        Call::StandingOf(0),
-    ];
+    let calls = [START, Call::Summon(0), Call::Settle(0), Call::StandingOf(0)];
     play(heading, &[0, 0], &entries, calls)
 }
