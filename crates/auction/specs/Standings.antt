@@ -1,4 +1,4 @@
--- What is said of a carrier's standing and of the bid that it keeps. A standing that a function does not name is not of its kind.
+-- What is said of a carrier's standing, and of the bid that it keeps. A function names the standings of its kind; one clause takes the others.
 use Rattle.std.specs.Prelude.{◌≡◌, ℕ, ◌+◌, ◌-◌, ◌/◌, ◌<◌, ◌≤◌, Bool, true, false, List, [], ◌∷◌, length, pos, ◌-ℤ◌, ◌≤ℤ◌, Some, None, Option, ◌==◌, int_lt, slice_index}
 use Rattle.sources.specs.Meaning.{Meaning, row_of}
 use Rattle.auction.specs.declared.standing.Best.{Best}

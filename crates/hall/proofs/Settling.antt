@@ -1,4 +1,4 @@
--- A settled bid: the verdict, what carrying it out leaves in the tables, and the tally after.
+-- A settled bid: the verdict, what its end leaves in the tables, and the tally after.
 use Rattle.std.proofs.Common.{◌≡◌, ℕ, ◌^◌, ◌<◌, ◌≤◌, cond, leb, ◌≢◌, List, length, get_or, take, set, pos, Some, None, Ok, Option, sym, refl, ap, ◌∙◌, subst, arith}
 use lib.Signed.{lt_z}
 use Rattle.std.proofs.lemmas.List.{map-set, length-set, get_or-take, set_comm, set-get_or}
@@ -68,7 +68,7 @@ won jobs ceiling step r prices holders (Some x) a k e =
 
 -- ---- a bid that ends, over the books
 
--- A carrier that is not freed and one that is: the order does not matter.
+-- Of two carriers one is freed and the other stands anew: the order does not matter.
 freed_set : (ss : List Standing) (o : Option ℕ) (i : ℕ) (s : Standing) → ((k : ℕ) → o ≡ Some k → i ≢ k) → freed (set ss i s) o ≡ set (freed ss o) i s
 freed_set ss None i s other = refl
 freed_set ss (Some k) i s other = set_comm ss i k s Waiting (other k refl)
