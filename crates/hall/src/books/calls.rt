@@ -91,8 +91,7 @@ fn look_closely<S: Source>(
 }
 
 // What a carrier's standing and the call together lead to: the bid that the call begins, carries on or finds ready to be judged.
-// One standing is lent to be changed, and the match is on it and the act together: forms that the project keeps
-// (docs/DECISIONS.md).
+// One standing is lent to be changed, so that no other can be; the match is on it and the act together, so that each pair has its place.
 #[inline(always)]
 fn respond<S: Source>(
     source: &S,
