@@ -7,6 +7,7 @@ use Rattle.std.proofs.Math.ListN.{get_or-map}
 use Rattle.std.proofs.lemmas.List.{take_min, drop_min, take_all, drop_all, take-map, drop-map, get_or-drop}
 use Rattle.std.proofs.lemmas.Option.{get_or_from_slice_get}
 use Rattle.std.proofs.ByRecursion.{All-take, All-drop}
+use Rattle.std.proofs.Math.Seq.{drop-cons}
 use Rattle.std.proofs.lemmas.List.Sums.{fold_more}
 use Rattle.sources.specs.declared.revaluing.Revaluing.{Revaluing}
 use Rattle.sources.specs.Meaning.{Meaning, row_of}
@@ -75,3 +76,19 @@ part_paired row from count = ap (take count) (drop-map pair_of from row) ∙ tak
 
 pub nothing_left : (from count : ℕ) → take {A = ℕ × ℕ} count (drop from []) ≡ []
 nothing_left from count = ap (take count) (drop_all from [] (omega arith)) ∙ take_all count [] (omega arith)
+
+-- ---- eight entries at once
+
+-- So many entries from a place on, one after the other.
+abbrev places : {V X : Type 0} (f : V → X → V) (xs : List X) (d : X) (v : V) (k n : ℕ) → V
+places f xs d v k zero = v
+places f xs d v k (suc n) = places f xs d (f v (get_or xs k d)) (suc k) n
+
+place_by_place : {V X : Type 0} (f : V → X → V) (xs : List X) (d : X) (v : V) (k n : ℕ) → k + n ≡ length xs → places f xs d v k n ≡ fold f v (drop k xs)
+place_by_place f xs d v k zero e = ap (fold f v) (sym (drop_all k xs (omega (arith, e))))
+place_by_place f xs d v k (suc n) e =
+    place_by_place f xs d (f v (get_or xs k d)) (suc k) n (omega (arith, e)) ∙ ap (fold f v) (sym (drop-cons xs k d (omega (arith, e))))
+
+-- All entries, where there are eight.
+pub eight_shown : {V X : Type 0} (f : V → X → V) (xs : List X) (d : X) (v : V) → length xs ≡ 8 → places f xs d v 0 8 ≡ fold f v xs
+eight_shown f xs d v e = place_by_place f xs d v 0 8 (sym e)
