@@ -1,61 +1,72 @@
--- What a glance tells of the bid that the same entries come to: where its net is above 0, all.
-use Rattle.std.proofs.Common.{◌≡◌, ℕ, ◌+◌, ◌-◌, ◌%◌, ◌^◌, ◌<◌, ◌≤◌, max, Bool, true, false, cond, eqb, List, [], ◌∷◌, length, length-drop, get_or, take, drop, fold, ℤ, pos, ◌-ℤ◌, Some, None, Option, sym, refl, ap, ◌∙◌, subst, ◌⊎◌, inl, inr, ⊎_elim, zero, suc, w64, arith, rules}
+-- What a glance tells of the bid that it began with and the same entries: its best and its runner-up, where it tells of a best.
+use Rattle.std.proofs.Common.{◌≡◌, ℕ, ◌+◌, ◌-◌, ◌%◌, ◌^◌, ◌<◌, ◌≤◌, max, min, Bool, true, false, cond, eqb, ltb, List, [], ◌∷◌, length, length-drop, get_or, take, drop, fold, ℤ, pos, negsuc, ◌-ℤ◌, Some, None, Option, sym, refl, ap, ◌∙◌, subst, ◌⊎◌, inl, inr, ⊎_elim, zero, suc, w64, arith, rules}
 use Rattle.std.specs.Int.{int_max, int_wrap, cast_signed}
-use Rattle.std.proofs.lemmas.Int.{int_wrap_fits, wrapping_sub-bits}
+use Rattle.std.proofs.lemmas.Int.{int_wrap_fits, wrapping_sub-bits, clamps}
 use lib.Signed.{lt_z}
 use borrow.Author.Differences.{up, down, ints, lt-true, lt-false}
-use Rattle.std.proofs.lemmas.Bool.{cases_Bool, cond_both, eqb-true}
+use Rattle.std.proofs.lemmas.Bool.{cond_both, eqb-true, ltb-true, and_parts, or_cases}
 use Rattle.auction.specs.declared.standing.Best.{Best}
 use Rattle.auction.specs.declared.standing.Bid.{Bid}
-use Rattle.auction.specs.Bids.{natural, beats, fresh, ranked, weighed, weighed_at}
+use Rattle.auction.specs.Bids.{natural, beats, ranked, weighed, weighed_at, looked_on}
 use Rattle.auction.proofs.Nets.{natural-up, sides, better, no_better}
 use Rattle.hall.specs.declared.books.Lot.{Lot}
 use Rattle.hall.specs.declared.books.glance.Glance.{Glance}
-use Rattle.hall.specs.Seeing.{least, bid_in}
-use Rattle.hall.specs.Glances.{price_held, glanced_at, glanced, net_in}
+use Rattle.hall.specs.Glances.{price_held, glanced_at, glanced, net_in, top_net, follows, lasts}
 use Rattle.hall.specs.Kept.{unsold, prices_of}
 use Rattle.hall.proofs.Entries.{price_in}
 use Rattle.std.specs.List.{AllByRecursion}
-use Rattle.std.proofs.lemmas.List.{get_or-take, length-take}
+use Rattle.std.specs.Option.{unwrap_or}
+use Rattle.std.proofs.lemmas.List.{get_or-take, length-take, take_min}
 use Rattle.std.proofs.Math.Nat.{mod-eq_of_lt}
 use Rattle.std.proofs.ByRecursion.{All-weaker}
 use Rattle.sources.specs.Meaning.{Meaning, Sound, Rising, row_of}
 use Rattle.sources.proofs.Reading.{row_known, row_within, row_rising}
 use Rattle.sources.proofs.Visiting.{all_in_part}
 use Rattle.auction.proofs.Weighed.{folded_looked}
-use Rattle.hall.proofs.Seeing.{natural_max}
 
-zero_or_more : (k : ℕ) → (k ≡ 0) ⊎ (0 < k)
-zero_or_more zero = inl refl
-zero_or_more (suc k) = inr (omega arith)
-
-abbrev pub net_of : Option Best → ℤ
-net_of None = least
-net_of (Some x) = x.net
-
-abbrev job_of : Option Best → ℕ
+abbrev pub job_of : Option Best → ℕ
 job_of None = 0
 job_of (Some x) = x.job
 
--- The nets above 0 are the bid's; so is the best, which stands before the entries that follow.
-pub record Fits (lots : List Lot) (s : Glance) (o : Option Best) (r low : ℕ) : Type 0 where
-  pub net : natural s.net ≡ natural (net_of o)
-  pub runner : natural s.runner_up ≡ r
-  pub under : natural s.runner_up ≤ natural s.net
-  pub best : 0 < natural s.net → o ≡ Some (record { net = s.net; job = s.job; worth = natural s.net + price_held lots s.job })
-  pub before : 0 < natural s.net → s.job < low
-  pub held : s.lots.now ≡ lots
-  pub light : 0 < natural s.net → natural s.net + price_held lots s.job ≤ 2 ^ 60
+abbrev net_of : Option Best → ℤ
+net_of None = pos 0
+net_of (Some x) = x.net
 
-module _ (lots : List Lot) (p j w low : ℕ) (s : Glance) (n : ℤ) (is : n ≡ pos w -ℤ pos p) (at : p ≡ price_held lots j) (after : low ≤ j) (light : w ≤ 2 ^ 60) where
+max_whole : (r : ℕ) (z : ℤ) → int_max (pos r) z ≡ pos (max r (natural z))
+max_whole r z = omega (arith, ints, clamps, natural-up z, sides z)
+
+whole : (z : ℤ) → 0 < natural z → z ≡ pos (natural z)
+whole (pos n) l = refl
+whole (negsuc n) l = absurd (omega arith)
+
+-- The glance has found a best of its own.
+pub record Found (lots : List Lot) (s : Glance) (o : Option Best) (low : ℕ) : Type 0 where
+  pub some : 0 < top_net o
+  pub best : o ≡ Some (record { net = s.net; job = s.job; worth = natural s.net + price_held lots s.job })
+  pub before : s.job < low
+  pub light : natural s.net + price_held lots s.job ≤ 2 ^ 60
+
+-- A glance, and the best and the runner-up of the bid that the entries so far come to, beside the bid's best before them. The jobs of
+-- all these entries are first or more, those of the entries that follow low or more.
+pub record Fits (lots : List Lot) (old : Option Best) (first : ℕ) (s : Glance) (o : Option Best) (r low : ℕ) : Type 0 where
+  pub net : s.net ≡ pos (top_net o)
+  pub runner : s.runner_up ≡ pos r
+  pub found : s.job < 256 → Found lots s o low
+  pub kept : 256 ≤ s.job → top_net o ≡ top_net old
+  pub lasts : 256 ≤ s.job → 0 < top_net o → (r < top_net o) ⊎ (job_of old < first) → o ≡ old
+  pub begun : first ≤ low
+  pub held : s.lots.now ≡ lots
+
+module _ (lots : List Lot) (old : Option Best) (first p j w low : ℕ) (s : Glance) (n : ℤ) (is : n ≡ pos w -ℤ pos p) (at : p ≡ price_held lots j)
+    (after : low ≤ j) (known : j < 256) (light : w ≤ 2 ^ 60) where
   abbrev new : Best
   new = record { net = n; job = j; worth = w }
 
   abbrev after_at : Bool → Glance
-  after_at t = record { lots = s.lots; net = cond t n s.net; job = cond t j s.job; runner_up = cond t s.net (int_max s.runner_up n) }
+  after_at t = record { lots = s.lots; net = cond t n s.net; job = cond t j s.job; runner_up = int_max s.runner_up (cond t s.net n) }
 
   abbrev Goal : Bool → Bid → Type 0
-  Goal t z = Fits lots (after_at t) z.best z.runner_up (j + 1)
+  Goal t z = Fits lots old first (after_at t) z.best z.runner_up (j + 1)
 
   net_here : up n + p ≡ w + down n
   net_here = let e = is in omega (arith, ints, e)
@@ -66,147 +77,133 @@ module _ (lots : List Lot) (p j w low : ℕ) (s : Glance) (n : ℤ) (is : n ≡ 
   heavy : 0 < natural n → natural n + price_held lots j ≤ 2 ^ 60
   heavy l = omega (arith, net_here, natural-up n, sides n, l, at, light)
 
-  -- an entry of worth 0
-  skipped : (o : Option Best) (r : ℕ) → w ≡ 0 → (t : Bool) → lt_z s.net n ≡ t → Fits lots s o r low → Fits lots (after_at t) o r (j + 1)
-  skipped o r z true e f =
-      let l = lt-true s.net n e in
-      let a : natural n ≡ 0 = omega (arith, net_here, natural-up n, sides n, z) in
-      let b : natural s.net ≡ 0 = omega (arith, natural-up s.net, sides s.net, natural-up n, sides n, l, a) in
-      let u = f.under in
-      record {
-        net = a ∙ sym b ∙ f.net;
-        runner = omega (arith, b, u, f.runner);
-        under = omega (arith, a, b);
-        best = λ h. absurd (omega (arith, a, h));
-        before = λ h. omega arith;
-        light = λ h. absurd (omega (arith, a, h));
-        held = f.held;
-      }
-  skipped o r z false e f =
-      let a : natural n ≡ 0 = omega (arith, net_here, natural-up n, sides n, z) in
-      let m = natural_max s.runner_up n in
-      record {
-        net = f.net;
-        runner = omega (arith, m, a, f.runner);
-        under = omega (arith, m, a, f.under);
-        best = f.best;
-        before = λ h. omega (arith, f.before h, after);
-        light = f.light;
-        held = f.held;
-      }
+  module _ (o : Option Best) (r : ℕ) (f : Fits lots old first s o r low) where
+    so_high : up s.net ≡ top_net o
+    so_high = ap up f.net
+
+    not_low : down s.net ≡ 0
+    not_low = ap down f.net
+
+    next : first ≤ j + 1
+    next = omega (arith, f.begun, after)
+
+    -- the entry is no new best
+    runner_on : int_max s.runner_up n ≡ pos (max r (natural n))
+    runner_on = ap (λ x. int_max x n) f.runner ∙ max_whole r n
+
+    found_on : s.job < 256 → Found lots (after_at false) o (j + 1)
+    found_on h = let q = f.found h in record { some = q.some; best = q.best; before = omega (arith, q.before, after); light = q.light }
+
+    -- the entry is the best
+    taken : 0 < natural n → Fits lots old first (after_at true) (Some new) (max r (top_net o)) (j + 1)
+    taken l = record {
+      net = whole n l;
+      runner = (λ i. int_max (f.runner i) (f.net i)) ∙ max_whole r (pos (top_net o));
+      found = λ h. record { some = l; best = same_best l; before = omega arith; light = heavy l };
+      kept = λ h. absurd (omega (arith, h, known));
+      lasts = λ h. absurd (omega (arith, h, known));
+      begun = next;
+      held = f.held;
+    }
+
+    rises : lt_z s.net n ≡ true → 0 < natural n
+    rises e = let l = lt-true s.net n e in omega (arith, l, so_high, not_low, natural-up n, sides n)
+
+    -- an entry of worth 0
+    skipped : w ≡ 0 → (t : Bool) → lt_z s.net n ≡ t → Fits lots old first (after_at t) o r (j + 1)
+    skipped z true e = let l = rises e in absurd (omega (arith, net_here, natural-up n, sides n, z, l))
+    skipped z false e =
+        let a : natural n ≡ 0 = omega (arith, net_here, natural-up n, sides n, z) in
+        let m : max r (natural n) ≡ r = omega (arith, a) in
+        record {
+          net = f.net;
+          runner = runner_on ∙ ap pos m;
+          found = found_on;
+          kept = f.kept;
+          lasts = f.lasts;
+          begun = next;
+          held = f.held;
+        }
 
   -- the first entry of more than 0 worth
-  first : (b : Bid) → b.best ≡ None → (t : Bool) → lt_z s.net n ≡ t → Fits lots s b.best b.runner_up low → Goal t (ranked b None new)
-  first b o t e f = go t e (f.net ∙ ap (λ q. natural (net_of q)) o)
-    where
-      go : (t : Bool) → lt_z s.net n ≡ t → natural s.net ≡ 0 → Goal t (ranked b None new)
-      go true e z =
-          let l = lt-true s.net n e in
-          record {
-            net = refl;
-            runner = omega (arith, z, f.under, f.runner);
-            under = omega (arith, z);
-            best = same_best;
-            before = λ h. omega arith;
-            light = heavy;
-            held = f.held;
-          }
-      go false e z =
-          let l = lt-false s.net n e in
-          let a : natural n ≡ 0 = omega (arith, natural-up s.net, sides s.net, natural-up n, sides n, l, z) in
-          let m = natural_max s.runner_up n in
-          record {
-            net = z ∙ sym a;
-            runner = omega (arith, m, a, f.runner);
-            under = omega (arith, m, a, f.under);
-            best = λ h. absurd (omega (arith, z, h));
-            before = λ h. omega (arith, f.before h, after);
-            light = λ h. absurd (omega (arith, z, h));
-            held = f.held;
-          }
+  first_seen : (b : Bid) → Fits lots old first s None b.runner_up low → (t : Bool) → lt_z s.net n ≡ t → Goal t (ranked b None new)
+  first_seen b f true e =
+      let m : max b.runner_up 0 ≡ b.runner_up = omega arith in
+      subst (λ k. Fits lots old first (after_at true) (Some new) k (j + 1)) m (taken None b.runner_up f (rises None b.runner_up f e))
+  first_seen b f false e =
+      let l = lt-false s.net n e in
+      let a : natural n ≡ 0 = omega (arith, l, so_high None b.runner_up f, not_low None b.runner_up f, natural-up n, sides n) in
+      let m : max b.runner_up (natural n) ≡ b.runner_up = omega (arith, a) in
+      record {
+        net = f.net ∙ ap pos (sym a);
+        runner = runner_on None b.runner_up f ∙ ap pos m;
+        found = λ h. absurd (let q = (f.found h).some in omega (arith, q));
+        kept = λ h. a ∙ f.kept h;
+        lasts = λ h z. absurd (omega (arith, a, z));
+        begun = next None b.runner_up f;
+        held = f.held;
+      }
 
-  module _ (b : Bid) (old : Best) (o : b.best ≡ Some old) (f : Fits lots s b.best b.runner_up low) where
-    same_net : natural s.net ≡ natural old.net
-    same_net = f.net ∙ ap (λ q. natural (net_of q)) o
+  module _ (b : Bid) (x : Best) (f : Fits lots old first s (Some x) b.runner_up low) where
+    high : up s.net ≡ natural x.net
+    high = so_high (Some x) b.runner_up f
 
-    -- where the net is above 0, the old best is the glance's
-    old_net : 0 < natural s.net → old.net ≡ s.net
-    old_net h = ap net_of (sym o ∙ f.best h)
+    flat : down s.net ≡ 0
+    flat = not_low (Some x) b.runner_up f
 
-    old_job : 0 < natural s.net → old.job ≡ s.job
-    old_job h = ap job_of (sym o ∙ f.best h)
+    -- no entry that follows the best is better at a net that is not above it
+    none_better : beats new x ≡ true → lt_z s.net n ≡ false → x.net ≡ s.net → x.job < low → ⊥
+    none_better t e q k =
+        let l = lt-false s.net n e in
+        ⊎_elim (λ z. omega (arith, z, l, ap up q, ap down q)) (λ z. omega (arith, z.1, k, after)) (better new x t)
 
-    won : (t : Bool) → lt_z s.net n ≡ t → beats new old ≡ true → Goal t (record { looked = b.looked + 1; best = Some new; runner_up = max b.runner_up (natural old.net) })
-    won true e t =
-        let l = lt-true s.net n e in
-        record {
-          net = refl;
-          runner = omega (arith, same_net, f.under, f.runner);
-          under = omega (arith, natural-up s.net, sides s.net, natural-up n, sides n, l);
-          best = same_best;
-          before = λ h. omega arith;
-          light = heavy;
-          held = f.held;
-        }
+    won : (t : Bool) → lt_z s.net n ≡ t → beats new x ≡ true → Goal t (record { looked = b.looked + 1; best = Some new; runner_up = max b.runner_up (natural x.net) })
+    won true e t = taken (Some x) b.runner_up f (rises (Some x) b.runner_up f e)
     won false e t =
         let l = lt-false s.net n e in
-        let q = better new old t in
-        let none : (0 < natural s.net) → ⊥ = λ h. let a = old_net h in let c = old_job h in let d = f.before h in
-        ⊎_elim (λ x. omega (arith, ints, a, x, l)) (λ x. omega (arith, x.1, c, d, after)) q in
-        let z : natural s.net ≡ 0 = ⊎_elim (λ x. x) (λ h. absurd (none h)) (zero_or_more (natural s.net)) in
-        let a : natural n ≡ 0 = omega (arith, natural-up s.net, sides s.net, natural-up n, sides n, l, z) in
-        let m = natural_max s.runner_up n in
+        let a : natural n ≡ natural x.net = ⊎_elim (λ z. omega (arith, z, l, high, flat, natural-up n, sides n, natural-up x.net, sides x.net)) (λ z. omega (arith, z.0, l, high, flat, natural-up n, sides n, natural-up x.net, sides x.net)) (better new x t) in
         record {
-          net = z ∙ sym a;
-          runner = omega (arith, m, a, same_net, z, f.under, f.runner);
-          under = omega (arith, m, a, f.under);
-          best = λ h. absurd (none h);
-          before = λ h. omega (arith, f.before h, after);
-          light = λ h. absurd (none h);
+          net = f.net ∙ ap pos (sym a);
+          runner = runner_on (Some x) b.runner_up f ∙ ap (λ k. pos (max b.runner_up k)) a;
+          found = λ h. absurd (let q = f.found h in none_better t e (ap net_of q.best) (subst (λ k. k < low) (sym (ap job_of q.best)) q.before));
+          kept = λ h. a ∙ f.kept h;
+          lasts = λ h z d. absurd (
+              let above : 0 < natural x.net = omega (arith, a, z) in
+              ⊎_elim (λ u. omega (arith, a, u))
+              (λ u. let same = f.lasts h above (inr u) in none_better t e (whole x.net above ∙ sym f.net) (omega (arith, ap job_of same, u, f.begun))) d
+              );
+          begun = next (Some x) b.runner_up f;
           held = f.held;
         }
 
-    kept : (t : Bool) → lt_z s.net n ≡ t → beats new old ≡ false → Goal t (record { looked = b.looked + 1; best = Some old; runner_up = max b.runner_up (natural n) })
-    kept true e t =
+    lost : (t : Bool) → lt_z s.net n ≡ t → beats new x ≡ false → Goal t (record { looked = b.looked + 1; best = Some x; runner_up = max b.runner_up (natural n) })
+    lost true e t =
         let l = lt-true s.net n e in
-        let q = (no_better new old t).0 in
-        let none : (0 < natural s.net) → ⊥ = λ h. let a = old_net h in omega (arith, ints, a, q, l) in
-        let z : natural s.net ≡ 0 = ⊎_elim (λ x. x) (λ h. absurd (none h)) (zero_or_more (natural s.net)) in
-        let a : natural n ≡ 0 = omega (arith, natural-up n, sides n, natural-up old.net, sides old.net, q, same_net, z) in
-        record {
-          net = a ∙ sym z ∙ same_net;
-          runner = omega (arith, a, z, f.under, f.runner);
-          under = omega (arith, a, z);
-          best = λ h. absurd (omega (arith, a, h));
-          before = λ h. omega arith;
-          light = λ h. absurd (omega (arith, a, h));
-          held = f.held;
-        }
-    kept false e t =
-        let l = lt-false s.net n e in
-        let m = natural_max s.runner_up n in
-        record {
-          net = same_net;
-          runner = omega (arith, m, f.runner);
-          under = omega (arith, m, f.under, natural-up s.net, sides s.net, natural-up n, sides n, l);
-          best = λ h. sym o ∙ f.best h;
-          before = λ h. omega (arith, f.before h, after);
-          light = f.light;
-          held = f.held;
-        }
+        let q = (no_better new x t).0 in
+        let above = rises (Some x) b.runner_up f e in
+        absurd (omega (arith, l, q, high, flat, above, natural-up n, sides n, natural-up x.net, sides x.net))
+    lost false e t = record {
+      net = f.net;
+      runner = runner_on (Some x) b.runner_up f;
+      found = found_on (Some x) b.runner_up f;
+      kept = f.kept;
+      lasts = λ h z d. f.lasts h z (⊎_elim (λ u. inl (omega (arith, u))) (λ u. inr u) d);
+      begun = next (Some x) b.runner_up f;
+      held = f.held;
+    }
 
-    ranks : (t : Bool) → lt_z s.net n ≡ t → Goal t (ranked b (Some old) new)
-    ranks t e = cond_both {A = Bid} (beats new old) _ _ (Goal t) (won t e) (kept t e)
+    ranks : (t : Bool) → lt_z s.net n ≡ t → Goal t (ranked b (Some x) new)
+    ranks t e = cond_both {A = Bid} (beats new x) _ _ (Goal t) (won t e) (lost t e)
 
-  gained : (b : Bid) (t : Bool) → lt_z s.net n ≡ t → Fits lots s b.best b.runner_up low → (q : Option Best) → b.best ≡ q → Goal t (ranked b q new)
-  gained b t e f None o = first b o t e f
-  gained b t e f (Some old) o = ranks b old o f t e
+  gained : (b : Bid) (t : Bool) → lt_z s.net n ≡ t → (q : Option Best) → Fits lots old first s q b.runner_up low → Goal t (ranked b q new)
+  gained b t e None f = first_seen b f t e
+  gained b t e (Some x) f = ranks b x f t e
 
   -- One more entry.
-  pub fits_on : (b : Bid) → Fits lots s b.best b.runner_up low → Fits lots (glanced_at n j s) (weighed_at p b (j, w)).best (weighed_at p b (j, w)).runner_up (j + 1)
+  pub fits_on : (b : Bid) → Fits lots old first s b.best b.runner_up low → Fits lots old first (glanced_at n j s) (weighed_at p b (j, w)).best (weighed_at p b (j, w)).runner_up (j + 1)
   fits_on b f =
-      cond_both {A = Bid} (eqb w 0) _ _ (Goal (lt_z s.net n)) (λ e. skipped b.best b.runner_up (eqb-true w 0 e) (lt_z s.net n) refl f)
-      (λ e. subst (λ z. Goal (lt_z s.net n) (ranked b b.best (record { net = z; job = j; worth = w }))) is (gained b (lt_z s.net n) refl f b.best refl))
+      cond_both {A = Bid} (eqb w 0) _ _ (Goal (lt_z s.net n)) (λ e. skipped b.best b.runner_up f (eqb-true w 0 e) (lt_z s.net n) refl)
+      (λ e. subst (λ z. Goal (lt_z s.net n) (ranked b b.best (record { net = z; job = j; worth = w }))) is (gained b (lt_z s.net n) refl b.best f))
 
 net_small : (w p : ℕ) → w ≤ 2 ^ 60 → p ≤ 2 ^ 60 → net_in w p ≡ pos w -ℤ pos p
 net_small w p a b =
@@ -220,90 +217,92 @@ net_small w p a b =
     cast_small x l = search rules
 
 -- All the entries of a part, by rising job.
-module _ (lots : List Lot) (jobs : ℕ) (few : jobs ≤ 256) (long : length lots ≡ 256) (low_prices : (j : ℕ) → get_or (take jobs (prices_of lots)) j 0 ≤ 2 ^ 37) where
-  pub glances : (s : Glance) (b : Bid) (low : ℕ) (es : List (ℕ × ℕ)) → Fits lots s b.best b.runner_up low →
+module _ (lots : List Lot) (old : Option Best) (first jobs : ℕ) (few : jobs ≤ 256) (long : length lots ≡ 256) (low_prices : (j : ℕ) → get_or (take jobs (prices_of lots)) j 0 ≤ 2 ^ 37) where
+  pub glances : (s : Glance) (b : Bid) (low : ℕ) (es : List (ℕ × ℕ)) → Fits lots old first s b.best b.runner_up low →
       Rising low es → AllByRecursion (λ e. e.0 < jobs) es → AllByRecursion (λ e. e.1 ≤ 2 ^ 60) es →
-      (k : ℕ) × Fits lots (fold glanced s es) (fold (weighed (take jobs (prices_of lots))) b es).best (fold (weighed (take jobs (prices_of lots))) b es).runner_up k
+      (k : ℕ) × Fits lots old first (fold glanced s es) (fold (weighed (take jobs (prices_of lots))) b es).best (fold (weighed (take jobs (prices_of lots))) b es).runner_up k
   unfolding weighed
   glances s b low [] f r known light = (low, f)
   glances s b low (e ∷ es) f r known light =
       let p = get_or (take jobs (prices_of lots)) e.0 0 in
       let known0 : e.0 < jobs = known.0 in
+      let few0 : e.0 < 256 = omega (arith, known0, few) in
       let j : e.0 % 256 ≡ e.0 = mod-eq_of_lt (omega (arith, known0, few)) in
       let cheap = low_prices e.0 in
       let at : get_or (take jobs (prices_of lots)) e.0 0 ≡ price_held lots e.0 =
       get_or-take jobs (prices_of lots) e.0 0 known.0 ∙ sym (price_in lots e.0 unsold (omega (arith, known0, few, long))) ∙ ap (λ k. (get_or lots k unsold).price) (sym j) in
       let price : price_held s.lots.now e.0 ≡ get_or (take jobs (prices_of lots)) e.0 0 = ap (λ q. price_held q e.0) f.held ∙ sym at in
       let is : net_in e.1 (price_held s.lots.now e.0) ≡ pos e.1 -ℤ pos p = ap (net_in e.1) price ∙ net_small e.1 p light.0 (omega (arith, cheap)) in
-      let step = fits_on lots p e.0 e.1 low s (net_in e.1 (price_held s.lots.now e.0)) is at r.0 light.0 b f in
-      let here = subst (λ k. Fits lots (glanced_at (net_in e.1 (price_held s.lots.now e.0)) k s) (weighed_at p b (e.0, e.1)).best (weighed_at p b (e.0, e.1)).runner_up (e.0 + 1)) (sym j) step in
+      let step = fits_on lots old first p e.0 e.1 low s (net_in e.1 (price_held s.lots.now e.0)) is at r.0 few0 light.0 b f in
+      let here = subst (λ k. Fits lots old first (glanced_at (net_in e.1 (price_held s.lots.now e.0)) k s) (weighed_at p b (e.0, e.1)).best (weighed_at p b (e.0, e.1)).runner_up (e.0 + 1)) (sym j) step in
       glances (glanced s e) (weighed_at p b e) (e.0 + 1) es here r.1 known.1 light.1
-
-rising_below : (low high : ℕ) (row : List (ℕ × ℕ)) → low ≤ high → Rising high row → Rising low row
-rising_below low high [] l r = tt
-rising_below low high (e ∷ es) l r = (let a = r.0 in omega arith, r.1)
-
-rising_left : (k low : ℕ) (row : List (ℕ × ℕ)) → Rising low row → Rising low (drop k row)
-rising_left zero low row r = r
-rising_left (suc k) low [] r = tt
-rising_left (suc k) low (e ∷ es) r = rising_left k low es (rising_below low (e.0 + 1) es (let a = r.0 in omega arith) r.1)
 
 rising_taken : (k low : ℕ) (row : List (ℕ × ℕ)) → Rising low row → Rising low (take k row)
 rising_taken zero low row r = tt
 rising_taken (suc k) low [] r = tt
 rising_taken (suc k) low (e ∷ es) r = (r.0, rising_taken k (e.0 + 1) es r.1)
 
-nothing : (z : ℤ) → z ≡ least → natural z ≡ 0
-nothing z e = ap natural e
+-- A part's jobs rise from its first one.
+rising_part : (k n low : ℕ) (row : List (ℕ × ℕ)) → Rising low row → Rising (get_or row k (0, 0)).0 (take n (drop k row))
+rising_part zero zero low row r = tt
+rising_part zero (suc n) low [] r = tt
+rising_part zero (suc n) low (e ∷ es) r = (omega arith, rising_taken n (e.0 + 1) es r.1)
+rising_part (suc k) zero low [] r = tt
+rising_part (suc k) (suc n) low [] r = tt
+rising_part (suc k) n low (e ∷ es) r = rising_part k n (e.0 + 1) es r.1
 
-eqb-more : (n p : ℕ) → 0 < n → eqb (n + p) 0 ≡ false
-eqb-more n p h = ⊎_elim (λ t. absurd (omega (arith, eqb-true (n + p) 0 t, h))) (λ f. f) (cases_Bool (eqb (n + p) 0))
+follows_it : (job : ℕ) (next : Option (ℕ × ℕ)) (e : ℕ × ℕ) → unwrap_or next (0, 0) ≡ e → follows job next ≡ true → job < e.0
+follows_it job None e q t = let z : ◌≡◌ {A = ℕ} 0 1 = cc in absurd (omega arith)
+follows_it job (Some n) e q t = omega (arith, ltb-true job n.0 t, ap (λ z. z.0) q)
 
-abbrev bid_of : ℕ → Option Best → ℕ → Bid
-bid_of l o r = record { looked = l; best = o; runner_up = r }
+-- A best that lasts has a net above 0, and all nets after it are below, or all jobs after it above.
+pub lasting : (r : ℕ) (o : Option Best) (next : Option (ℕ × ℕ)) (e : ℕ × ℕ) → unwrap_or next (0, 0) ≡ e → lasts r next o ≡ true → (0 < top_net o) × ((r < top_net o) ⊎ (job_of o < e.0))
+lasting r None next e q t = let z : ◌≡◌ {A = ℕ} 0 1 = cc in absurd (omega arith)
+lasting r (Some x) next e q t =
+    let p = and_parts (lt_z (pos 0) x.net) _ t in
+    let l = lt-true (pos 0) x.net p.0 in (
+      omega (arith, l, natural-up x.net, sides x.net),
+      ⊎_elim (λ u. inl (ltb-true r (natural x.net) u)) (λ u. inr (follows_it x.job next e q u)) (or_cases (ltb r (natural x.net)) _ p.1),
+    )
+
+-- As many entries as there are lanes, or as many as are left.
+pub looked_count : (lanes count : ℕ) (ps : List ℕ) (row : List (ℕ × ℕ)) (b : Bid) → count ≡ min lanes (length row - b.looked) → looked_on count ps row b ≡ looked_on lanes ps row b
+looked_count lanes count ps row b n =
+    ap (fold (weighed ps) b) (ap (λ k. take k (drop b.looked row)) (n ∙ ap (min lanes) (sym (length-drop b.looked row))) ∙ take_min lanes (drop b.looked row))
 
 -- A glance at a part of a row.
 module _ (m : Meaning) (sound : Sound m) (few : m.jobs ≤ 256) (lots : List Lot) (long : length lots ≡ 256) (low_prices : (j : ℕ) → get_or (take m.jobs (prices_of lots)) j 0 ≤ 2 ^ 37)
-    (i from count : ℕ) (s : Glance) (held : s.lots.now ≡ lots) (net : s.net ≡ least) (runner_up : s.runner_up ≡ least) where
+    (i count : ℕ) (b : Bid) (s : Glance) (held : s.lots.now ≡ lots) (net : s.net ≡ pos (top_net b.best)) (job : s.job ≡ 256) (runner_up : s.runner_up ≡ pos b.runner_up) where
   abbrev part : List (ℕ × ℕ)
-  part = take count (drop from (row_of m i))
+  part = take count (drop b.looked (row_of m i))
 
-  abbrev after : Bid
-  after = fold (weighed (take m.jobs (prices_of lots))) fresh part
+  abbrev pub after : Bid
+  after = looked_on count (take m.jobs (prices_of lots)) (row_of m i) b
 
-  begins : Fits lots s None 0 0
+  abbrev first : ℕ
+  first = (get_or (row_of m i) b.looked (0, 0)).0
+
+  begins : Fits lots b.best first s b.best b.runner_up first
   begins = record {
-    net = nothing s.net net;
-    runner = nothing s.runner_up runner_up;
-    under = omega (arith, nothing s.runner_up runner_up);
-    best = λ h. absurd (omega (arith, nothing s.net net, h));
-    before = λ h. absurd (omega (arith, nothing s.net net, h));
+    net = net;
+    runner = runner_up;
+    found = λ h. absurd (omega (arith, job, h));
+    kept = λ h. refl;
+    lasts = λ h z d. refl;
+    begun = omega arith;
     held = held;
-    light = λ h. absurd (omega (arith, nothing s.net net, h));
   }
 
-  pub glanced_part : (k : ℕ) × Fits lots (fold glanced s part) after.best after.runner_up k
+  pub glanced_part : (k : ℕ) × Fits lots b.best first (fold glanced s part) after.best after.runner_up k
   glanced_part =
       let light = All-weaker (λ e. e.1 ≤ m.ceiling) (λ e. e.1 ≤ 2 ^ 60) (λ e l. let h = sound.small in omega (arith, l, h)) (row_of m i) (row_within m sound i) in
-      glances lots m.jobs few long low_prices s fresh 0 part begins
-      (rising_taken count 0 (drop from (row_of m i)) (rising_left from 0 (row_of m i) (row_rising m sound i)))
-      (all_in_part (λ e. e.0 < m.jobs) from count (row_of m i) (row_known m sound i)) (all_in_part (λ e. e.1 ≤ 2 ^ 60) from count (row_of m i) light)
+      glances lots b.best first m.jobs few long low_prices s b first part begins
+      (rising_part b.looked count 0 (row_of m i) (row_rising m sound i))
+      (all_in_part (λ e. e.0 < m.jobs) b.looked count (row_of m i) (row_known m sound i)) (all_in_part (λ e. e.1 ≤ 2 ^ 60) b.looked count (row_of m i) light)
 
-  -- Where its net is above 0, it is the bid that the part's entries come to.
-  pub glance_is : (g : Glance) → g ≡ fold glanced s part → 0 < natural g.net → count ≤ length (row_of m i) - from →
-      bid_in count g.net g.job (natural g.net + price_held g.lots.now g.job) g.runner_up ≡ after
-  glance_is g e h inside = subst (λ g. 0 < natural g.net → bid_in count g.net g.job (natural g.net + price_held g.lots.now g.job) g.runner_up ≡ after) (sym e) here h
-    where
-      here : 0 < natural (fold glanced s part).net → bid_in count (fold glanced s part).net (fold glanced s part).job (natural (fold glanced s part).net + price_held (fold glanced s part).lots.now (fold glanced s part).job) (fold glanced s part).runner_up ≡ after
-      here h =
-          let f = glanced_part.1 in
-          let z = fold glanced s part in
-          let l : after.looked ≡ count = omega (arith, folded_looked (take m.jobs (prices_of lots)) part fresh, length-take count (drop from (row_of m i)), length-drop from (row_of m i), inside) in
-          let some : eqb (natural (fold glanced s part).net + price_held lots (fold glanced s part).job) 0 ≡ false = eqb-more (natural (fold glanced s part).net) (price_held lots (fold glanced s part).job) h in
-          ap (λ q. bid_in count z.net z.job (natural z.net + price_held q z.job) z.runner_up) f.held
-          ∙ ap (λ t. bid_of count (cond t None (Some (record { net = z.net; job = z.job; worth = natural z.net + price_held lots z.job }))) (natural z.runner_up)) some
-          ∙ (λ i. bid_of (sym l i) (sym (f.best h) i) (f.runner i))
+  -- What is known of it once it was shown the part.
+  pub glance_fits : (g : Glance) → g ≡ fold glanced s part → (k : ℕ) × Fits lots b.best first g after.best after.runner_up k
+  glance_fits g e = subst (λ z. (k : ℕ) × Fits lots b.best first z after.best after.runner_up k) (sym e) glanced_part
 
-  pub glance_low : (g : Glance) → g ≡ fold glanced s part → 0 < natural g.net → natural g.net + price_held g.lots.now g.job ≤ 2 ^ 60
-  glance_low g e h = subst (λ g. 0 < natural g.net → natural g.net + price_held g.lots.now g.job ≤ 2 ^ 60) (sym e)
-      (λ h. subst (λ q. natural (fold glanced s part).net + price_held q (fold glanced s part).job ≤ 2 ^ 60) (sym glanced_part.1.held) (glanced_part.1.light h)) h
+  pub looked_after : count ≤ length (row_of m i) - b.looked → after.looked ≡ b.looked + count
+  looked_after inside = omega (arith, folded_looked (take m.jobs (prices_of lots)) part b, length-take count (drop b.looked (row_of m i)), length-drop b.looked (row_of m i), inside)

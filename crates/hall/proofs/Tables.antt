@@ -4,12 +4,13 @@ use mathlib.Core.HLevel.{is_prop→PathP}
 use mathlib.Core.Logic.{∥∥₁_prop}
 use Rattle.std.proofs.lemmas.List.{take-replicate, get_or-take, get_or_default}
 use Rattle.sources.specs.Meaning.{Meaning}
+use Rattle.auction.specs.declared.standing.Best.{Best}
 use Rattle.auction.specs.declared.standing.Counts.{Counts}
 use Rattle.auction.specs.declared.standing.Standing.{Standing}
-use Rattle.auction.specs.declared.standing.Standing.TheVariants.{Waiting, Out}
+use Rattle.auction.specs.declared.standing.Standing.TheVariants.{Waiting, Bidding, Served, Out}
 use Rattle.auction.specs.Tally.{Tally, standing_at}
 use Rattle.auction.specs.Rules.{no_counts, opened, freed, stands}
-use Rattle.auction.specs.Consistent.{Consistent, Limits}
+use Rattle.auction.specs.Consistent.{Consistent, Limits, BidSound, StandingSound}
 use Rattle.auction.proofs.Keeping.{opened_consistent}
 use Rattle.hall.specs.declared.books.Books.{Books}
 use Rattle.sources.specs.declared.form.Heading.{Heading}
@@ -62,6 +63,23 @@ low_prices_in m b o j =
 pub standing_in : (b : Books) (i : ℕ) → i < b.noted.carriers → standing_at (tally_in b) i ≡ get_or b.standings i Waiting
 standing_in b i l =
     get_or-take b.noted.carriers b.standings i Out l ∙ get_or_default b.standings i Out Waiting (omega (arith, few_places b i l, (kept_out b.kept).standings_long))
+
+standing_wide : (jobs ceiling : ℕ) (s : Standing) → jobs ≤ 256 → ceiling ≤ 2 ^ 36 → StandingSound jobs ceiling s → StandingSound 256 (2 ^ 36) s
+standing_wide jobs ceiling Waiting j c h = h
+standing_wide jobs ceiling (Bidding b) j c h = wide b.best h
+  where
+    wide : (o : Option Best) → BidSound jobs ceiling b.runner_up o → BidSound 256 (2 ^ 36) b.runner_up o
+    wide None h = h
+    wide (Some x) h = record { known = omega (arith, h.known, j); low_worth = omega (arith, h.low_worth, c); low_net = h.low_net; low_runner = h.low_runner }
+standing_wide jobs ceiling (Served h) j c k = omega (arith, k, c)
+standing_wide jobs ceiling Out j c h = h
+
+-- What is known of a standing in the table.
+pub standing_sound : (b : Books) (i : ℕ) → i < b.noted.carriers → StandingSound 256 (2 ^ 36) (get_or b.standings i Waiting)
+standing_sound b i l =
+    let k = consistent_in b in
+    standing_wide b.noted.jobs b.noted.ceiling (get_or b.standings i Waiting) k.limits.few_jobs k.limits.low_ceiling
+    (subst (StandingSound b.noted.jobs b.noted.ceiling) (standing_in b i l) (k.sound i))
 
 -- A standing in the table is one in the tally.
 pub stands_in : (b : Books) (i : ℕ) (s : Standing) (n : Counts) →

@@ -1,6 +1,8 @@
--- What a glance is after one more entry.
-use Rattle.std.specs.Prelude.{ℕ, ◌+◌, ◌-◌, ◌%◌, ◌^◌, cond, ℤ, List, int_lt, slice_index_or}
+-- What a glance is after one more entry, and when the best that it began with is the best after it.
+use Rattle.std.specs.Prelude.{ℕ, ◌+◌, ◌-◌, ◌%◌, ◌^◌, Bool, false, cond, ◌&&◌, ◌||◌, ℤ, pos, List, Some, None, Option, int_lt, nat_lt, slice_index_or}
 use Rattle.std.specs.Int.{int_max, cast_signed, w64}
+use Rattle.auction.specs.declared.standing.Best.{Best}
+use Rattle.auction.specs.Bids.{natural}
 use Rattle.hall.specs.declared.books.Lot.{Lot}
 use Rattle.hall.specs.declared.books.glance.Glance.{Glance}
 use Rattle.hall.specs.Kept.{unsold}
@@ -17,8 +19,23 @@ glanced_at net job s = record {
   lots = s.lots;
   net = cond (int_lt s.net net) net s.net;
   job = cond (int_lt s.net net) job s.job;
-  runner_up = cond (int_lt s.net net) s.net (int_max s.runner_up net);
+  runner_up = int_max s.runner_up (cond (int_lt s.net net) s.net net);
 }
 
 abbrev pub glanced : Glance → ℕ × ℕ → Glance
 glanced s e = glanced_at (net_in e.1 (price_held s.lots.now e.0)) (e.0 % 256) s
+
+-- The best net, 0 if there is none above it.
+abbrev pub top_net : Option Best → ℕ
+top_net None = 0
+top_net (Some x) = natural x.net
+
+-- The entry's job is above this one.
+abbrev pub follows : ℕ → Option (ℕ × ℕ) → Bool
+follows job None = false
+follows job (Some e) = nat_lt job e.0
+
+-- A best net above 0, which no net after it equals, or only at a larger job: those after it begin with this entry.
+abbrev pub lasts : ℕ → Option (ℕ × ℕ) → Option Best → Bool
+lasts runner_up next None = false
+lasts runner_up next (Some x) = int_lt (pos 0) x.net && (nat_lt runner_up (natural x.net) || follows x.job next)

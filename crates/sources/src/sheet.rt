@@ -9,7 +9,7 @@ ghost use Rattle.sources.specs.Tables.{FillsExactly};
 
 use crate::checks::verdict;
 use crate::form::{Entry, Heading};
-use crate::source::{Source, part_of};
+use crate::source::Source;
 use crate::visitor::Visitor;
 use refusals::Refusal;
 
@@ -130,6 +130,9 @@ impl Source for Sheet<'_> {
         let Some(row) = self.row(carrier) else {
             return visitor;
         };
-        show(&row[part_of(row.len(), from, count)], visitor)
+        if from >= row.len() {
+            return visitor;
+        }
+        show(&row[from..from + count.min(row.len() - from)], visitor)
     }
 }

@@ -1,16 +1,17 @@
 //! The calls, on books and the source that they were started for. Source and books are lent side by side: a struct of the two
 //! borrows would be a second hall.
-ghost use Rattle.std.specs.Prelude.{◌≡◌, ℕ, ◌^◌, ◌<◌, ◌≤◌, false, length, take, is_ok, Some, None, IfOk, OnOk, slice_index};
+ghost use Rattle.std.specs.Prelude.{◌≡◌, ℕ, ◌+◌, ◌^◌, ◌<◌, ◌≤◌, false, length, take, is_ok, Some, None, IfOk, OnOk, slice_index};
 ghost use Rattle.std.specs.Result.{result_map_both};
 ghost use Rattle.sources.specs.Limits.{most_carriers, most_jobs, highest_ceiling};
-ghost use Rattle.sources.specs.Meaning.{Meaning, row_of};
+ghost use Rattle.sources.specs.Meaning.{Meaning, row_of, entry_at};
 ghost use Rattle.auction.specs.Bids.{looked_on, judged, best_worth};
-ghost use Rattle.auction.specs.Consistent.{Limits};
+ghost use Rattle.auction.specs.Consistent.{Limits, StandingSound};
 ghost use Rattle.auction.specs.Limits.{highest_step};
 ghost use Rattle.auction.specs.Looks.{Looks};
 ghost use Rattle.auction.specs.Rules.{opened, start_answer, start_tally, bid_at, called, summon_answer, summon_tally, look_answer, look_tally, freed, verdict_in, ended, settle_answer, settle_tally};
 ghost use Rattle.auction.specs.Standings.{BidSound};
 ghost use Rattle.auction.specs.Tally.{standing_at};
+ghost use Rattle.hall.specs.Glances.{lasts, follows};
 ghost use Rattle.hall.specs.Kept.{prices_of, holders_of};
 ghost use Rattle.hall.specs.InBooks.{NotedOf, tally_in};
 ghost use Rattle.hall.specs.Ruled.{Ruled};
@@ -52,36 +53,64 @@ fn look_on<S: Source>(
 )
     requires few_jobs { (S.meaning source.now).jobs ≤ 256 }
     requires low_prices { (j : ℕ) → slice_index (take (S.meaning source.now).jobs (prices_of lots.now)) j ≤ 2 ^ 37 }
+    requires sound { BidSound 256 (2 ^ 36) bid.old.runner_up bid.old.best }
     requires long { entries ≡ length (row_of (S.meaning source.now) carrier) }
     requires inside { bid.old.looked ≤ entries }
     ensures { bid.new ≡ looked_on lanes (take (S.meaning source.now).jobs (prices_of lots.now)) (row_of (S.meaning source.now) carrier) bid.old }
 {
     let count = lanes.min(entries - bid.looked);
-    let glance = source.visit(carrier, bid.looked, count, Glance::new(lots));
-    if glance.tells() {
-        *bid = merged(*bid, count, glance.seen());
+    let glance = source.visit(carrier, bid.looked, count, Glance::new(lots, *bid));
+    if glance.found() {
+        *bid = Bid {
+            looked: bid.looked + count,
+            best: Some(glance.best()),
+            runner_up: glance.runner_up(),
+        };
+    } else if best_lasts(source, carrier, bid, glance.runner_up()) {
+        bid.looked += count;
+        bid.runner_up = glance.runner_up();
     } else {
-        look_closely(source, lots, lanes, carrier, entries, bid);
+        look_closely(source, lots, count, carrier, bid);
     }
 }
 
-// The same, entry by entry, whatever the nets are: for the few looks that a glance does not tell.
+// Whether a bid's best is the best still, after a part of the row with no net above its own. Of equal nets the smaller job is the
+// better, and jobs rise along a row.
+fn best_lasts<S: Source>(source: &S, carrier: usize, bid: &Bid, runner_up: u64) -> bool
+    ensures { result ≡ lasts runner_up (entry_at (S.meaning source.now) carrier bid.now.looked) bid.now.best }
+{
+    match bid.best {
+        Some(best) if best.net > 0 => {
+            runner_up < best.net as u64 || follows(best.job, source.entry(carrier, bid.looked))
+        }
+        _ => false,
+    }
+}
+
+// Whether an entry is there and its job is above this one.
+fn follows(job: usize, next: Option<(usize, u64)>) -> bool
+    ensures { result ≡ follows job next }
+{
+    match next {
+        Some((later, _)) => job < later,
+        None => false,
+    }
+}
+
+// Looks at so many entries one by one, whatever the nets are: for the few looks that a glance does not tell.
 #[inline(never)]
 fn look_closely<S: Source>(
     source: &S,
     lots: &[Lot; MOST_JOBS],
-    lanes: usize,
+    count: usize,
     carrier: usize,
-    entries: usize,
     bid: &mut Bid,
 )
     requires few_jobs { (S.meaning source.now).jobs ≤ 256 }
     requires low_prices { (j : ℕ) → slice_index (take (S.meaning source.now).jobs (prices_of lots.now)) j ≤ 2 ^ 37 }
-    requires long { entries ≡ length (row_of (S.meaning source.now) carrier) }
-    requires inside { bid.old.looked ≤ entries }
-    ensures { bid.new ≡ looked_on lanes (take (S.meaning source.now).jobs (prices_of lots.now)) (row_of (S.meaning source.now) carrier) bid.old }
+    requires inside { bid.old.looked + count ≤ length (row_of (S.meaning source.now) carrier) }
+    ensures { bid.new ≡ looked_on count (take (S.meaning source.now).jobs (prices_of lots.now)) (row_of (S.meaning source.now) carrier) bid.old }
 {
-    let count = lanes.min(entries - bid.looked);
     let mut seen = Seen::nothing();
     for place in bid.looked..bid.looked + count {
         let (job, worth) = source.entry(carrier, place).unwrap_or((0, 0));
@@ -104,6 +133,7 @@ fn respond<S: Source>(
 ) -> Result<Bid, Refusal>
     requires few_jobs { (S.meaning source.now).jobs ≤ most_jobs }
     requires low_prices { (j : ℕ) → slice_index (take (S.meaning source.now).jobs (prices_of lots.now)) j ≤ 2 ^ 37 }
+    requires sound { StandingSound 256 (2 ^ 36) standing.old }
     requires few_summonses { counts.old.summonses ≤ 2 ^ 53 }
     ensures answered { result ≡ bid_from (S.meaning source.now) lanes lots.now carrier standing.old act }
     ensures stood { standing.new ≡ standing_after standing.old result }

@@ -1,15 +1,17 @@
 //! A look at a part of a row, in few steps for each entry.
-ghost use Rattle.std.specs.Prelude.{◌≡◌, ◌+◌, ◌^◌, ◌<◌, ◌≤◌, nat_lt};
+ghost use Rattle.std.specs.Prelude.{◌≡◌, ◌+◌, ◌^◌, ◌<◌, ◌≤◌, ◌≤ℤ◌, pos, nat_lt};
 ghost use Rattle.auction.specs.Bids.{natural};
-ghost use Rattle.hall.specs.Seeing.{least};
+ghost use Rattle.hall.specs.Glances.{top_net};
 
 use super::Lot;
-use crate::weighing::{Seen, either};
+use crate::weighing::either;
+use auction::standing::{Best, Bid};
 use sources::checks::MOST_JOBS;
 use sources::visitor::Visitor;
 
-// The highest net of the entries so far, its job, and the highest net of the others. An entry of worth 0 has no net above 0, so that
-// none needs a test: where the highest net is above 0, it is the bid's, and otherwise nothing is known.
+// What a bid comes to by the entries so far: the best net, the job of the entry that has it, and the runner-up. It begins with the
+// bid's own, and an entry counts only if its net is above that; until then the job is none. An entry of worth 0 has no net above 0,
+// so that none needs a test.
 #[derive(Clone, Copy)]
 pub(super) struct Glance<'a> {
     lots: &'a [Lot; MOST_JOBS],
@@ -21,38 +23,60 @@ pub(super) struct Glance<'a> {
 impl<'a> Glance<'a> {
     ghost use Rattle.hall.specs.Glances.{price_held};
 
-    // Nothing was looked at.
-    pub(super) fn new(lots: &'a [Lot; MOST_JOBS]) -> Self
+    // Nothing more was looked at.
+    pub(super) fn new(lots: &'a [Lot; MOST_JOBS], bid: Bid) -> Self
+        requires low { bid.runner_up ≤ 2 ^ 60 }
         ensures lots { result.lots.now ≡ lots.now }
-        ensures net { result.net ≡ least }
-        ensures runner_up { result.runner_up ≡ least }
+        ensures net { result.net ≡ pos (top_net bid.best) }
+        ensures job { result.job ≡ 256 }
+        ensures runner_up { result.runner_up ≡ pos bid.runner_up }
     {
         Glance {
             lots,
-            net: i64::MIN,
-            job: 0,
-            runner_up: i64::MIN,
+            net: top_net(bid.best),
+            job: MOST_JOBS,
+            runner_up: bid.runner_up as i64,
         }
     }
 
-    // Whether the highest net is above 0.
-    pub(super) fn tells(&self) -> bool
-        ensures { result ≡ nat_lt 0 (natural self.now.net) }
+    // Whether an entry has a net above the bid's.
+    pub(super) fn found(&self) -> bool
+        ensures { result ≡ nat_lt self.now.job 256 }
     {
-        self.net > 0
+        self.job < MOST_JOBS
     }
 
-    // The best, whose worth is its net and its price, and the highest net of the others.
-    pub(super) fn seen(&self) -> Seen
+    // That entry: its worth is its net and its price.
+    pub(super) fn best(&self) -> Best
         requires some { 0 < natural self.now.net }
         requires low { natural self.now.net + price_held self.now.lots.now self.now.job ≤ 2 ^ 60 }
         ensures net { result.net ≡ self.now.net }
         ensures job { result.job ≡ self.now.job }
         ensures worth { result.worth ≡ natural self.now.net + price_held self.now.lots.now self.now.job }
-        ensures runner_up { result.runner_up ≡ self.now.runner_up }
     {
-        let worth = self.net as u64 + self.lots[self.job % MOST_JOBS].price;
-        Seen::found(self.net, self.job, worth, self.runner_up)
+        Best {
+            net: self.net,
+            job: self.job,
+            worth: self.net as u64 + self.lots[self.job % MOST_JOBS].price,
+        }
+    }
+
+    // The runner-up, which is 0 at least.
+    pub(super) fn runner_up(&self) -> u64
+        requires { pos 0 ≤ℤ self.now.runner_up }
+        ensures { result ≡ natural self.now.runner_up }
+    {
+        self.runner_up as u64
+    }
+}
+
+// The best net, 0 if there is none above it.
+fn top_net(best: Option<Best>) -> i64
+    ensures { result ≡ pos (top_net best) }
+{
+    match best {
+        Some(best) => best.net.max(0),
+        None => 0,
     }
 }
 
@@ -71,7 +95,7 @@ impl Visitor for Glance<'_> {
             lots: self.lots,
             net: either(is_best, net, self.net),
             job: either(is_best, job, self.job),
-            runner_up: either(is_best, self.net, self.runner_up.max(net)),
+            runner_up: self.runner_up.max(either(is_best, self.net, net)),
         }
     }
 }

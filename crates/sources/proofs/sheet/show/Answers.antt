@@ -1,4 +1,4 @@
-use Rattle.std.proofs.Common.{◌≡◌, map, sym, ap, ◌∙◌, arith}
+use Rattle.std.proofs.Common.{arith}
 use Rattle.std.proofs.lemmas.List.Folds.{fold-map}
 use Rattle.sources.specs.Sheets.{no_entry, pair_of}
 use Rattle.sources.proofs.Visiting.{eight_shown}

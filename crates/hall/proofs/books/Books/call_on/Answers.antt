@@ -1,6 +1,6 @@
 use Rattle.std.proofs.Common.{refl, ap, arith}
 use Rattle.auction.proofs.Keeping.{low_counts}
-use Rattle.hall.proofs.Tables.{same_books, consistent_in, low_prices_in}
+use Rattle.hall.proofs.Tables.{same_books, consistent_in, low_prices_in, standing_sound}
 use Rattle.hall.proofs.Calling.{call_answered, call_keeps, call_tallied, standing_kept, counts_kept}
 use Rattle.hall.proofs.books.Books.call_on.Goals as goal
 
@@ -11,6 +11,7 @@ respond-requires g c =
     record {
       few_jobs = omega (arith, ap (λ h. h.jobs) c.requires, (consistent_in b).limits.few_jobs);
       low_prices = low_prices_in m b c.requires;
+      sound = standing_sound b c.args.carrier (omega arith);
       few_summonses = (low_counts b.noted.carriers b.noted.jobs b.noted.ceiling _ (consistent_in b)).low_summonses;
     }
 

@@ -4,7 +4,7 @@ use Rattle.std.proofs.ByRecursion.{All-get_or}
 use Rattle.std.proofs.lemmas.List.{get_or-take}
 use Rattle.sources.specs.Meaning.{row_of}
 use Rattle.std.specs.Option.{unwrap_or}
-use Rattle.sources.proofs.Reading.{entry_or, row_known, row_within, row_rising, rising_apart}
+use Rattle.sources.proofs.Reading.{entry_or, row_known, row_within, row_rising, rising_apart, row_length}
 use Rattle.auction.specs.Bids.{fresh, weighed, weighed_at}
 use Rattle.hall.specs.Kept.{unsold, prices_of}
 use Rattle.hall.specs.Seeing.{bid_in}
@@ -83,6 +83,11 @@ pub returns : goal.returns
 returns g c =
     let m = g.S.Source.meaning c.args.source.now in
     let s = c.loop-place.seen in
-    let count : c.loop-place.place - c.args.bid.now.looked ≡ c.min-count.result = omega arith in
+    let count : c.loop-place.place - c.args.bid.now.looked ≡ c.args.count = omega arith in
     let seen = subst (λ n. bid_in n s.net s.job s.worth s.runner_up ≡ fold (weighed (take m.jobs (prices_of c.args.lots.now))) fresh (take n (drop c.args.bid.now.looked (row_of m c.args.carrier)))) count c.loop-place.invariant.folded in
-    c.merged.ensures ∙ look_merged c.args.lanes c.min-count.result (take m.jobs (prices_of c.args.lots.now)) (row_of m c.args.carrier) c.args.bid.now _ (omega (arith, c.min-count.ensures, c.requires.long)) seen
+    c.merged.ensures ∙ look_merged c.args.count c.args.count (take m.jobs (prices_of c.args.lots.now)) (row_of m c.args.carrier) c.args.bid.now _ (omega arith) seen
+
+pub overflow_add-place-end : goal.overflow_add-place-end
+overflow_add-place-end g c =
+    let m = g.S.Source.meaning c.args.source.now in
+    omega (arith, c.requires.inside, row_length m (g.S.Source.sound c.args.source.now) c.args.carrier, c.requires.few_jobs)

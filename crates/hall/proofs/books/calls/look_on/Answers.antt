@@ -1,29 +1,100 @@
-use Rattle.std.proofs.Common.{◌≡◌, ◌-◌, min, length, take, sym, ◌∙◌, arith}
-use Rattle.std.proofs.lemmas.Bool.{ltb-true}
+use Rattle.std.proofs.Common.{◌≡◌, ◌+◌, ◌-◌, ◌≤◌, ◌^◌, ⊎_elim, inl, inr, min, length, take, Some, Option, sym, ap, ◌∙◌, subst, arith}
+use borrow.Author.Differences.{ints}
+use Rattle.std.proofs.lemmas.Bool.{ltb-true, ltb-false}
 use Rattle.sources.specs.Meaning.{row_of}
+use Rattle.sources.proofs.Reading.{entry_or}
+use Rattle.auction.specs.declared.standing.Best.{Best}
+use Rattle.auction.specs.declared.standing.Bid.{Bid}
 use Rattle.auction.specs.Bids.{natural}
+use Rattle.hall.specs.Glances.{price_held}
 use Rattle.hall.specs.Kept.{prices_of}
-use Rattle.hall.specs.Seeing.{merged, bid_in}
-use Rattle.hall.proofs.Glances.{glance_is, glance_low}
-use Rattle.hall.proofs.Seeing.{look_merged}
+use Rattle.hall.proofs.Glances.{glance_fits, looked_after, looked_count, lasting}
 use Rattle.hall.proofs.books.calls.look_on.Goals as goal
 
-pub seen-requires-clause-low : goal.seen-requires-clause-low
-seen-requires-clause-low g c =
+pub best-requires-clause-some : goal.best-requires-clause-some
+best-requires-clause-some g c =
     let m = g.S.Source.meaning c.args.source.now in
-    glance_low m (g.S.Source.sound c.args.source.now) c.requires.few_jobs c.args.lots.now (omega arith) c.requires.low_prices c.args.carrier c.args.bid.now.looked c.min-count.result
-    c.new.result c.new.ensures.lots c.new.ensures.net c.new.ensures.runner_up c.visit-glance.result c.visit-glance.ensures (ltb-true 0 (natural c.visit-glance.result.net) (sym c.if-tells.ensures))
+    let e = c.new.ensures in
+    let f = (glance_fits m (g.S.Source.sound c.args.source.now) c.requires.few_jobs c.args.lots.now (omega arith) c.requires.low_prices c.args.carrier c.min-count.result c.args.bid.now
+    c.new.result e.lots e.net e.job e.runner_up c.visit-glance.result c.visit-glance.ensures).1 in
+    let q = f.found (ltb-true c.visit-glance.result.job 256 (sym c.found.ensures ∙ c.if-found.true)) in
+    omega (arith, ap natural f.net, q.some)
 
-pub returns-then-tells : goal.returns-then-tells
-returns-then-tells g c =
+pub best-requires-clause-low : goal.best-requires-clause-low
+best-requires-clause-low g c =
     let m = g.S.Source.meaning c.args.source.now in
-    let ps = take m.jobs (prices_of c.args.lots.now) in
-    let row = row_of m c.args.carrier in
+    let e = c.new.ensures in
+    let f = (glance_fits m (g.S.Source.sound c.args.source.now) c.requires.few_jobs c.args.lots.now (omega arith) c.requires.low_prices c.args.carrier c.min-count.result c.args.bid.now
+    c.new.result e.lots e.net e.job e.runner_up c.visit-glance.result c.visit-glance.ensures).1 in
+    let q = f.found (ltb-true c.visit-glance.result.job 256 (sym c.found.ensures ∙ c.if-found.true)) in
+    let z = c.visit-glance.result in
+    subst (λ ls. natural z.net + price_held ls z.job ≤ 2 ^ 60) (sym f.held) q.light
+
+pub runner_up-requires : goal.runner_up-requires
+runner_up-requires g c =
+    let m = g.S.Source.meaning c.args.source.now in
+    let e = c.new.ensures in
+    let f = (glance_fits m (g.S.Source.sound c.args.source.now) c.requires.few_jobs c.args.lots.now (omega arith) c.requires.low_prices c.args.carrier c.min-count.result c.args.bid.now
+    c.new.result e.lots e.net e.job e.runner_up c.visit-glance.result c.visit-glance.ensures).1 in
+    omega (arith, ints, f.runner)
+
+pub runner_up-requires-else-found : goal.runner_up-requires-else-found
+runner_up-requires-else-found g c =
+    let m = g.S.Source.meaning c.args.source.now in
+    let e = c.new.ensures in
+    let f = (glance_fits m (g.S.Source.sound c.args.source.now) c.requires.few_jobs c.args.lots.now (omega arith) c.requires.low_prices c.args.carrier c.min-count.result c.args.bid.now
+    c.new.result e.lots e.net e.job e.runner_up c.visit-glance.result c.visit-glance.ensures).1 in
+    omega (arith, ints, f.runner)
+
+pub runner_up-bid-requires : goal.runner_up-bid-requires
+runner_up-bid-requires g c =
+    let m = g.S.Source.meaning c.args.source.now in
+    let e = c.new.ensures in
+    let f = (glance_fits m (g.S.Source.sound c.args.source.now) c.requires.few_jobs c.args.lots.now (omega arith) c.requires.low_prices c.args.carrier c.min-count.result c.args.bid.now
+    c.new.result e.lots e.net e.job e.runner_up c.visit-glance.result c.visit-glance.ensures).1 in
+    omega (arith, ints, f.runner)
+
+pub returns-then-found : goal.returns-then-found
+returns-then-found g c =
+    let m = g.S.Source.meaning c.args.source.now in
+    let e = c.new.ensures in
     let bid = c.args.bid.now in
     let count = c.min-count.result in
-    let e = c.seen.ensures in
+    let f = (glance_fits m (g.S.Source.sound c.args.source.now) c.requires.few_jobs c.args.lots.now (omega arith) c.requires.low_prices c.args.carrier c.min-count.result c.args.bid.now
+    c.new.result e.lots e.net e.job e.runner_up c.visit-glance.result c.visit-glance.ensures).1 in
+    let q = f.found (ltb-true c.visit-glance.result.job 256 (sym c.found.ensures ∙ c.if-found.true)) in
+    let z = c.visit-glance.result in
+    let b = c.best.ensures in
     let n : c.min-count.result ≡ min c.args.lanes (length (row_of m c.args.carrier) - c.args.bid.now.looked) = omega (arith, c.min-count.ensures, c.requires.long) in
-    let is = glance_is m (g.S.Source.sound c.args.source.now) c.requires.few_jobs c.args.lots.now (omega arith) c.requires.low_prices c.args.carrier c.args.bid.now.looked c.min-count.result
-    c.new.result c.new.ensures.lots c.new.ensures.net c.new.ensures.runner_up c.visit-glance.result c.visit-glance.ensures (ltb-true 0 (natural c.visit-glance.result.net) (sym c.if-tells.ensures)) (omega (arith, n)) in
-    c.merged.ensures ∙ (λ i. merged bid (bid_in count (e.net i) (e.job i) (e.worth i) (e.runner_up i)))
-    ∙ look_merged c.args.lanes count ps row bid _ n is
+    let looked = looked_after m (g.S.Source.sound c.args.source.now) c.requires.few_jobs c.args.lots.now (omega arith) c.requires.low_prices c.args.carrier c.min-count.result c.args.bid.now
+    c.new.result e.lots e.net e.job e.runner_up (omega (arith, n)) in
+    let worth = b.worth ∙ ap (λ ls. natural z.net + price_held ls z.job) f.held in
+    let best : ◌≡◌ {A = Option Best} (Some c.best.result) _ = (λ i. Some (record { net = b.net i; job = b.job i; worth = worth i })) ∙ sym q.best in
+    let runner = c.runner_up.ensures ∙ ap natural f.runner in
+    ◌∙◌ {A = Bid} (λ i. record { looked = sym looked i; best = best i; runner_up = runner i }) (looked_count c.args.lanes count (take m.jobs (prices_of c.args.lots.now)) (row_of m c.args.carrier) bid n)
+
+pub returns-then-best_lasts : goal.returns-then-best_lasts
+returns-then-best_lasts g c =
+    let m = g.S.Source.meaning c.args.source.now in
+    let e = c.new.ensures in
+    let f = (glance_fits m (g.S.Source.sound c.args.source.now) c.requires.few_jobs c.args.lots.now (omega arith) c.requires.low_prices c.args.carrier c.min-count.result c.args.bid.now
+    c.new.result e.lots e.net e.job e.runner_up c.visit-glance.result c.visit-glance.ensures).1 in
+    let bid = c.args.bid.now in
+    let count = c.min-count.result in
+    let n : c.min-count.result ≡ min c.args.lanes (length (row_of m c.args.carrier) - c.args.bid.now.looked) = omega (arith, c.min-count.ensures, c.requires.long) in
+    let looked = looked_after m (g.S.Source.sound c.args.source.now) c.requires.few_jobs c.args.lots.now (omega arith) c.requires.low_prices c.args.carrier c.min-count.result c.args.bid.now
+    c.new.result e.lots e.net e.job e.runner_up (omega (arith, n)) in
+    let runner = c.runner_up-bid.ensures ∙ ap natural f.runner in
+    let told = c.runner_up-else-found.ensures ∙ ap natural f.runner in
+    let none = ltb-false c.visit-glance.result.job 256 (sym c.found.ensures ∙ c.if-found.false) in
+    let l = lasting c.runner_up-else-found.result bid.best _ _ (entry_or m c.args.carrier bid.looked) (sym c.best_lasts.ensures ∙ c.if-best_lasts.true) in
+    let top = f.kept none in
+    let below = ⊎_elim (λ u. inl (omega (arith, u, told, top))) (λ u. inr u) l.1 in
+    let best = sym (f.lasts none (omega (arith, l.0, top)) below) in
+    ◌∙◌ {A = Bid} (λ i. record { looked = sym looked i; best = best i; runner_up = runner i }) (looked_count c.args.lanes count (take m.jobs (prices_of c.args.lots.now)) (row_of m c.args.carrier) bid n)
+
+pub returns-else-best_lasts : goal.returns-else-best_lasts
+returns-else-best_lasts g c =
+    let m = g.S.Source.meaning c.args.source.now in
+    let n : c.min-count.result ≡ min c.args.lanes (length (row_of m c.args.carrier) - c.args.bid.now.looked) = omega (arith, c.min-count.ensures, c.requires.long) in
+    c.look_closely.ensures ∙ looked_count c.args.lanes c.min-count.result (take m.jobs (prices_of c.args.lots.now)) (row_of m c.args.carrier) c.args.bid.now n

@@ -1,4 +1,4 @@
-use Rattle.std.proofs.Common.{◌≡◌, ◌-◌, min, length, take, drop, fold, map, sym, ap, ◌∙◌, arith}
+use Rattle.std.proofs.Common.{◌≡◌, ◌+◌, ◌-◌, min, length, take, drop, fold, map, sym, ap, ◌∙◌, arith}
 use Rattle.std.specs.Option.{option_map}
 use Rattle.sources.specs.Sheets.{pair_of, sheet_rows}
 use Rattle.sources.proofs.Visiting.{cut, row_there, row_missing, part_paired, nothing_left}
@@ -16,8 +16,8 @@ returns g c =
     let row = c.in-Some.row.now in
     let shown = g.V.Visitor.shown in
     let there = row_there (sheet_rows s.heading s.starts.now s.entries.now) c.args.carrier row (sym (ap (option_map (λ x. x.now)) c.in-Some.is) ∙ c.row.ensures) in
-    let n : c.part_of.result.end - c.part_of.result.start ≡ min c.args.count (length c.in-Some.row.now - c.part_of.result.start) = omega (arith, c.part_of.ensures.end) in
+    let n : (c.args.from + c.min.result) - c.args.from ≡ min c.args.count (length c.in-Some.row.now - c.args.from) = omega (arith, c.min.ensures) in
     c.show.ensures
-    ∙ ap (λ k. fold shown c.args.visitor (map pair_of (take k (drop c.part_of.result.start row)))) n
-    ∙ ap (λ es. fold shown c.args.visitor (map pair_of es)) (cut row c.args.from c.args.count c.part_of.result.start c.part_of.ensures.start)
+    ∙ ap (λ k. fold shown c.args.visitor (map pair_of (take k (drop c.args.from row)))) n
+    ∙ ap (λ es. fold shown c.args.visitor (map pair_of es)) (cut row c.args.from c.args.count c.args.from (omega arith))
     ∙ ap (fold shown c.args.visitor) (sym (ap (λ r. take c.args.count (drop c.args.from r)) there ∙ part_paired row c.args.from c.args.count))
