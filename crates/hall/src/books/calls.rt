@@ -56,7 +56,7 @@ fn look_on<S: Source>(
     requires sound { BidSound 256 (2 ^ 36) bid.old.runner_up bid.old.best }
     requires long { entries ≡ length (row_of (S.meaning source.now) carrier) }
     requires inside { bid.old.looked ≤ entries }
-    ensures { bid.new ≡ looked_on lanes (take (S.meaning source.now).jobs (prices_of lots.now)) (row_of (S.meaning source.now) carrier) bid.old }
+    ensures { let m = S.meaning source.now in bid.new ≡ looked_on lanes (take m.jobs (prices_of lots.now)) (row_of m carrier) bid.old }
 {
     let count = lanes.min(entries - bid.looked);
     let glance = source.visit(carrier, bid.looked, count, Glance::new(lots, *bid));
@@ -109,7 +109,7 @@ fn look_closely<S: Source>(
     requires few_jobs { (S.meaning source.now).jobs ≤ 256 }
     requires low_prices { (j : ℕ) → slice_index (take (S.meaning source.now).jobs (prices_of lots.now)) j ≤ 2 ^ 37 }
     requires inside { bid.old.looked + count ≤ length (row_of (S.meaning source.now) carrier) }
-    ensures { bid.new ≡ looked_on count (take (S.meaning source.now).jobs (prices_of lots.now)) (row_of (S.meaning source.now) carrier) bid.old }
+    ensures { let m = S.meaning source.now in bid.new ≡ looked_on count (take m.jobs (prices_of lots.now)) (row_of m carrier) bid.old }
 {
     let mut seen = Seen::nothing();
     for place in bid.looked..bid.looked + count {
