@@ -2,9 +2,9 @@
 # Runs `inspect` and `pair` on each sample sheet, and `replay` on each sample log. They must print what stands beside the
 # sample: in the .txt (`inspect`), the .pair.txt (`pair`), the .log.txt (`replay`). Each ends with status 1 if that is a
 # refusal or a line that is not understood, else with 0. A log is replayed over the sheet of its name, or over
-# three_by_three.sheet if there is none. The programs whose input that sheet is in the gate must be given it as it stands here.
-# The first run of each program builds it. With --built, as the gate asks once `rt ci` has passed, a program that `rt ci` left
-# is used as it is, unless something below crates/ was touched since.
+# three_by_three.sheet if there is none. What `rt ci` gives the three programs to read must be that sheet too.
+# The first run of each program builds it. With --built, as the gate calls it once `rt ci` has passed, a program that `rt ci`
+# built is taken as it is, unless a file that it may be made of was touched since.
 set -eu
 root=$(cd "$(dirname "$0")/.." && pwd)
 samples=$root/samples
@@ -14,7 +14,7 @@ trap 'rm -rf "$work"' EXIT
 count=0 failed=0
 built=${1-}
 
-# Whether the program was built, and no file that it may be made of was touched since; -cnewer sees also one that kept its time.
+# Whether the program is built, and no file that it may be made of was touched since. -cnewer sees one that kept its time too.
 stands() {
     [ -x "$run" ] && [ -z "$(find "$root/crates" "$root/crates.txt" -name out -prune -o -type f -cnewer "$run" -print -quit)" ]
 }
