@@ -1,5 +1,5 @@
 -- What a glance tells of the bid that it began with and the same entries: its best and its runner-up, where it tells of a best.
-use Rattle.std.proofs.Common.{◌≡◌, ℕ, ◌+◌, ◌-◌, ◌%◌, ◌^◌, ◌<◌, ◌≤◌, max, min, Bool, true, false, cond, eqb, ltb, List, [], ◌∷◌, length, length-drop, get_or, take, drop, fold, ℤ, pos, negsuc, ◌-ℤ◌, Some, None, Option, sym, refl, ap, ◌∙◌, subst, ◌⊎◌, inl, inr, ⊎_elim, zero, suc, w64, arith, rules}
+use Rattle.std.proofs.Common.{◌≡◌, ℕ, ◌+◌, ◌-◌, ◌%◌, ◌^◌, ◌<◌, ◌≤◌, max, min, Bool, true, false, cond, eqb, List, [], ◌∷◌, length, length-drop, get_or, take, drop, fold, ℤ, pos, negsuc, ◌-ℤ◌, Some, None, Option, sym, refl, ap, ◌∙◌, subst, ◌⊎◌, inl, inr, ⊎_elim, zero, suc, w64, arith, rules}
 use Rattle.std.specs.Int.{int_max, int_wrap, cast_signed}
 use Rattle.std.proofs.lemmas.Int.{int_wrap_fits, wrapping_sub-bits, clamps}
 use lib.Signed.{lt_z}
@@ -11,7 +11,7 @@ use Rattle.auction.specs.Bids.{natural, beats, ranked, weighed, weighed_at, look
 use Rattle.auction.proofs.Nets.{natural-up, sides, better, no_better}
 use Rattle.hall.specs.declared.books.Lot.{Lot}
 use Rattle.hall.specs.declared.books.glance.Glance.{Glance}
-use Rattle.hall.specs.Glances.{price_held, glanced_at, glanced, net_in, top_net, follows, lasts}
+use Rattle.hall.specs.Glances.{price_held, glanced_at, glanced, net_in, top_net, follows, wins_ties, lasts}
 use Rattle.hall.specs.Kept.{unsold, prices_of}
 use Rattle.hall.proofs.Entries.{price_in}
 use Rattle.std.specs.List.{AllByRecursion}
@@ -255,15 +255,24 @@ follows_it : (job : ℕ) (next : Option (ℕ × ℕ)) (e : ℕ × ℕ) → unwra
 follows_it job None e q t = let z : ◌≡◌ {A = ℕ} 0 1 = cc in absurd (omega arith)
 follows_it job (Some n) e q t = omega (arith, ltb-true job n.0 t, ap (λ z. z.0) q)
 
--- A best that lasts has a net above 0, and all nets after it are below, or all jobs after it above.
-pub lasting : (r : ℕ) (o : Option Best) (next : Option (ℕ × ℕ)) (e : ℕ × ℕ) → unwrap_or next (0, 0) ≡ e → lasts r next o ≡ true → (0 < top_net o) × ((r < top_net o) ⊎ (job_of o < e.0))
-lasting r None next e q t = let z : ◌≡◌ {A = ℕ} 0 1 = cc in absurd (omega arith)
-lasting r (Some x) next e q t =
+-- A best that wins ties has a net above 0, and the jobs of the later entries are above its own.
+pub tie_won : (o : Option Best) (next : Option (ℕ × ℕ)) (e : ℕ × ℕ) → unwrap_or next (0, 0) ≡ e → wins_ties next o ≡ true → (0 < top_net o) × (job_of o < e.0)
+tie_won None next e q t = let z : ◌≡◌ {A = ℕ} 0 1 = cc in absurd (omega arith)
+tie_won (Some x) next e q t =
     let p = and_parts (lt_z (pos 0) x.net) _ t in
-    let l = lt-true (pos 0) x.net p.0 in (
-      omega (arith, l, natural-up x.net, sides x.net),
-      ⊎_elim (λ u. inl (ltb-true r (natural x.net) u)) (λ u. inr (follows_it x.job next e q u)) (or_cases (ltb r (natural x.net)) _ p.1),
-    )
+    let l = lt-true (pos 0) x.net p.0 in
+    (omega (arith, l, natural-up x.net, sides x.net), follows_it x.job next e q p.1)
+
+-- A glance that found no better net, where the bid's best lasts.
+pub still_best : (lots : List Lot) (old o : Option Best) (first r low : ℕ) (s : Glance) (next : Option (ℕ × ℕ)) (e : ℕ × ℕ) → Fits lots old first s o r low → 256 ≤ s.job →
+    unwrap_or next (0, 0) ≡ e → e.0 ≡ first → lasts s next old ≡ true → o ≡ old
+still_best lots old o first r low s next e f none q at t =
+    let top = f.kept none in
+    ⊎_elim
+    (λ u. let l = lt-true s.runner_up s.net u in let below : r < top_net o = omega (arith, l, ap up f.runner, ap down f.runner, ap up f.net, ap down f.net) in
+    f.lasts none (omega (arith, below)) (inl below))
+    (λ u. let l = tie_won old next e q u in f.lasts none (omega (arith, l.0, top)) (inr (omega (arith, l.1, at))))
+    (or_cases (lt_z s.runner_up s.net) _ t)
 
 -- As many entries as there are lanes, or as many as are left.
 pub looked_count : (lanes count : ℕ) (ps : List ℕ) (row : List (ℕ × ℕ)) (b : Bid) → count ≡ min lanes (length row - b.looked) → looked_on count ps row b ≡ looked_on lanes ps row b

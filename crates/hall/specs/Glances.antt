@@ -35,7 +35,11 @@ abbrev pub follows : ℕ → Option (ℕ × ℕ) → Bool
 follows job None = false
 follows job (Some e) = nat_lt job e.0
 
--- A best net above 0, which no net after it equals, or only at a larger job: those after it begin with this entry.
-abbrev pub lasts : ℕ → Option (ℕ × ℕ) → Option Best → Bool
-lasts runner_up next None = false
-lasts runner_up next (Some x) = int_lt (pos 0) x.net && (nat_lt runner_up (natural x.net) || follows x.job next)
+-- A best with a net above 0, at a job below that of this entry.
+abbrev pub wins_ties : Option (ℕ × ℕ) → Option Best → Bool
+wins_ties next None = false
+wins_ties next (Some x) = int_lt (pos 0) x.net && follows x.job next
+
+-- Later entries, which begin with this one, have no better net than the best: none has an equal one either, or the best wins ties.
+abbrev pub lasts : Glance → Option (ℕ × ℕ) → Option Best → Bool
+lasts s next o = int_lt s.runner_up s.net || wins_ties next o

@@ -11,7 +11,7 @@ ghost use Rattle.auction.specs.Looks.{Looks};
 ghost use Rattle.auction.specs.Rules.{opened, start_answer, start_tally, bid_at, called, summon_answer, summon_tally, look_answer, look_tally, freed, verdict_in, ended, settle_answer, settle_tally};
 ghost use Rattle.auction.specs.Standings.{BidSound};
 ghost use Rattle.auction.specs.Tally.{standing_at};
-ghost use Rattle.hall.specs.Glances.{lasts, follows};
+ghost use Rattle.hall.specs.Glances.{lasts, wins_ties, follows};
 ghost use Rattle.hall.specs.Kept.{prices_of, holders_of};
 ghost use Rattle.hall.specs.InBooks.{NotedOf, tally_in};
 ghost use Rattle.hall.specs.Ruled.{Ruled};
@@ -66,7 +66,7 @@ fn look_on<S: Source>(
             best: Some(glance.best()),
             runner_up: glance.runner_up(),
         };
-    } else if best_lasts(source, carrier, bid, glance.runner_up()) {
+    } else if best_lasts(source, carrier, bid, &glance) {
         bid.looked += count;
         bid.runner_up = glance.runner_up();
     } else {
@@ -74,15 +74,21 @@ fn look_on<S: Source>(
     }
 }
 
-// Whether a bid's best is the best still, after a part of the row with no net above its own. Of equal nets the smaller job is the
-// better, and jobs rise along a row.
-fn best_lasts<S: Source>(source: &S, carrier: usize, bid: &Bid, runner_up: u64) -> bool
-    ensures { result ≡ lasts runner_up (entry_at (S.meaning source.now) carrier bid.now.looked) bid.now.best }
+// Whether a bid's best is the best still, after a part of the row with no net above its own.
+fn best_lasts<S: Source>(source: &S, carrier: usize, bid: &Bid, glance: &Glance<'_>) -> bool
+    ensures { result ≡ lasts glance.now (entry_at (S.meaning source.now) carrier bid.now.looked) bid.now.best }
+{
+    glance.leads() || wins_ties(source, carrier, bid)
+}
+
+// Whether a bid's best, with a net above 0, is better than later entries of the same net: of equal nets the smaller job is the better,
+// and jobs rise along a row. Not inlined: in a look that needs no such test it would take registers from the loop.
+#[inline(never)]
+fn wins_ties<S: Source>(source: &S, carrier: usize, bid: &Bid) -> bool
+    ensures { result ≡ wins_ties (entry_at (S.meaning source.now) carrier bid.now.looked) bid.now.best }
 {
     match bid.best {
-        Some(best) if best.net > 0 => {
-            runner_up < best.net as u64 || follows(best.job, source.entry(carrier, bid.looked))
-        }
+        Some(best) if best.net > 0 => follows(best.job, source.entry(carrier, bid.looked)),
         _ => false,
     }
 }

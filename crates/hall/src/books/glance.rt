@@ -1,5 +1,5 @@
 //! A look at a part of a row, in few steps for each entry.
-ghost use Rattle.std.specs.Prelude.{◌≡◌, ◌+◌, ◌^◌, ◌<◌, ◌≤◌, ◌≤ℤ◌, pos, nat_lt};
+ghost use Rattle.std.specs.Prelude.{◌≡◌, ◌+◌, ◌^◌, ◌<◌, ◌≤◌, ◌≤ℤ◌, pos, nat_lt, int_lt};
 ghost use Rattle.auction.specs.Bids.{natural};
 ghost use Rattle.hall.specs.Glances.{top_net};
 
@@ -59,6 +59,13 @@ impl<'a> Glance<'a> {
             job: self.job,
             worth: self.net as u64 + self.lots[self.job % MOST_JOBS].price,
         }
+    }
+
+    // Whether the best net is above all others.
+    pub(super) fn leads(&self) -> bool
+        ensures { result ≡ int_lt self.now.runner_up self.now.net }
+    {
+        self.runner_up < self.net
     }
 
     // The runner-up, which is 0 at least.

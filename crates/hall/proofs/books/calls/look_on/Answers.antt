@@ -1,4 +1,4 @@
-use Rattle.std.proofs.Common.{◌≡◌, ◌+◌, ◌-◌, ◌≤◌, ◌^◌, ⊎_elim, inl, inr, min, length, take, Some, Option, sym, ap, ◌∙◌, subst, arith}
+use Rattle.std.proofs.Common.{◌≡◌, ◌+◌, ◌-◌, ◌≤◌, ◌^◌, min, length, take, Some, Option, sym, refl, ap, ◌∙◌, subst, arith}
 use borrow.Author.Differences.{ints}
 use Rattle.std.proofs.lemmas.Bool.{ltb-true, ltb-false}
 use Rattle.sources.specs.Meaning.{row_of}
@@ -8,7 +8,7 @@ use Rattle.auction.specs.declared.standing.Bid.{Bid}
 use Rattle.auction.specs.Bids.{natural}
 use Rattle.hall.specs.Glances.{price_held}
 use Rattle.hall.specs.Kept.{prices_of}
-use Rattle.hall.proofs.Glances.{glance_fits, looked_after, looked_count, lasting}
+use Rattle.hall.proofs.Glances.{glance_fits, looked_after, looked_count, still_best}
 use Rattle.hall.proofs.books.calls.look_on.Goals as goal
 
 pub best-requires-clause-some : goal.best-requires-clause-some
@@ -32,14 +32,6 @@ best-requires-clause-low g c =
 
 pub runner_up-requires : goal.runner_up-requires
 runner_up-requires g c =
-    let m = g.S.Source.meaning c.args.source.now in
-    let e = c.new.ensures in
-    let f = (glance_fits m (g.S.Source.sound c.args.source.now) c.requires.few_jobs c.args.lots.now (omega arith) c.requires.low_prices c.args.carrier c.min-count.result c.args.bid.now
-    c.new.result e.lots e.net e.job e.runner_up c.visit-glance.result c.visit-glance.ensures).1 in
-    omega (arith, ints, f.runner)
-
-pub runner_up-requires-else-found : goal.runner_up-requires-else-found
-runner_up-requires-else-found g c =
     let m = g.S.Source.meaning c.args.source.now in
     let e = c.new.ensures in
     let f = (glance_fits m (g.S.Source.sound c.args.source.now) c.requires.few_jobs c.args.lots.now (omega arith) c.requires.low_prices c.args.carrier c.min-count.result c.args.bid.now
@@ -85,12 +77,8 @@ returns-then-best_lasts g c =
     let looked = looked_after m (g.S.Source.sound c.args.source.now) c.requires.few_jobs c.args.lots.now (omega arith) c.requires.low_prices c.args.carrier c.min-count.result c.args.bid.now
     c.new.result e.lots e.net e.job e.runner_up (omega (arith, n)) in
     let runner = c.runner_up-bid.ensures ∙ ap natural f.runner in
-    let told = c.runner_up-else-found.ensures ∙ ap natural f.runner in
     let none = ltb-false c.visit-glance.result.job 256 (sym c.found.ensures ∙ c.if-found.false) in
-    let l = lasting c.runner_up-else-found.result bid.best _ _ (entry_or m c.args.carrier bid.looked) (sym c.best_lasts.ensures ∙ c.if-best_lasts.true) in
-    let top = f.kept none in
-    let below = ⊎_elim (λ u. inl (omega (arith, u, told, top))) (λ u. inr u) l.1 in
-    let best = sym (f.lasts none (omega (arith, l.0, top)) below) in
+    let best = sym (still_best _ _ _ _ _ _ _ _ _ f none (entry_or m c.args.carrier bid.looked) refl (sym c.best_lasts.ensures ∙ c.if-best_lasts.true)) in
     ◌∙◌ {A = Bid} (λ i. record { looked = sym looked i; best = best i; runner_up = runner i }) (looked_count c.args.lanes count (take m.jobs (prices_of c.args.lots.now)) (row_of m c.args.carrier) bid n)
 
 pub returns-else-best_lasts : goal.returns-else-best_lasts
