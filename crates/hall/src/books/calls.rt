@@ -51,9 +51,9 @@ fn look_on<S: Source>(
     entries: usize,
     bid: &mut Bid,
 )
-    requires few_jobs { (S.meaning source.now).jobs ≤ 256 }
+    requires few_jobs { (S.meaning source.now).jobs ≤ most_jobs }
     requires low_prices { (j : ℕ) → slice_index (take (S.meaning source.now).jobs (prices_of lots.now)) j ≤ 2 ^ 37 }
-    requires sound { BidSound 256 (2 ^ 36) bid.old.runner_up bid.old.best }
+    requires sound { BidSound most_jobs highest_ceiling bid.old.runner_up bid.old.best }
     requires long { entries ≡ length (row_of (S.meaning source.now) carrier) }
     requires inside { bid.old.looked ≤ entries }
     ensures { let m = S.meaning source.now in bid.new ≡ looked_on lanes (take m.jobs (prices_of lots.now)) (row_of m carrier) bid.old }
@@ -112,7 +112,7 @@ fn look_closely<S: Source>(
     carrier: usize,
     bid: &mut Bid,
 )
-    requires few_jobs { (S.meaning source.now).jobs ≤ 256 }
+    requires few_jobs { (S.meaning source.now).jobs ≤ most_jobs }
     requires low_prices { (j : ℕ) → slice_index (take (S.meaning source.now).jobs (prices_of lots.now)) j ≤ 2 ^ 37 }
     requires inside { bid.old.looked + count ≤ length (row_of (S.meaning source.now) carrier) }
     ensures { let m = S.meaning source.now in bid.new ≡ looked_on count (take m.jobs (prices_of lots.now)) (row_of m carrier) bid.old }
@@ -139,7 +139,7 @@ fn respond<S: Source>(
 ) -> Result<Bid, Refusal>
     requires few_jobs { (S.meaning source.now).jobs ≤ most_jobs }
     requires low_prices { (j : ℕ) → slice_index (take (S.meaning source.now).jobs (prices_of lots.now)) j ≤ 2 ^ 37 }
-    requires sound { StandingSound 256 (2 ^ 36) standing.old }
+    requires sound { StandingSound most_jobs highest_ceiling standing.old }
     requires few_summonses { counts.old.summonses ≤ 2 ^ 53 }
     ensures answered { result ≡ bid_from (S.meaning source.now) lanes lots.now carrier standing.old act }
     ensures stood { standing.new ≡ standing_after standing.old result }
@@ -211,8 +211,8 @@ fn conclude(
     standing: &mut Standing,
     counts: &mut Counts,
 ) -> Verdict
-    requires low_step { step ≤ 2 ^ 36 }
-    requires sound { BidSound 256 (2 ^ 36) bid.runner_up bid.best }
+    requires low_step { step ≤ highest_step }
+    requires sound { BidSound most_jobs highest_ceiling bid.runner_up bid.best }
     requires few_awards { counts.old.awards ≤ 2 ^ 52 }
     requires few_stales { counts.old.stales ≤ 2 ^ 52 }
     requires few_outs { counts.old.outs ≤ 2 ^ 52 }
