@@ -10,7 +10,8 @@ use Rattle.auction.specs.declared.standing.Standing.{Standing}
 use Rattle.auction.specs.declared.standing.Standing.TheVariants.{Waiting, Bidding, Served, Out}
 use Rattle.auction.specs.Tally.{Tally, standing_at}
 use Rattle.auction.specs.Rules.{no_counts, opened, freed, stands}
-use Rattle.auction.specs.Consistent.{Consistent, Limits, BidSound, StandingSound}
+use Rattle.auction.specs.Standings.{BidSound, StandingSound}
+use Rattle.auction.specs.Consistent.{Consistent, Limits}
 use Rattle.auction.proofs.Keeping.{opened_consistent}
 use Rattle.hall.specs.declared.books.Books.{Books}
 use Rattle.sources.specs.declared.form.Heading.{Heading}
