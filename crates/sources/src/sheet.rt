@@ -26,7 +26,7 @@ pub struct Sheet<'a> {
 }
 
 // Shows a visitor entries, in their order. Eight of them, which a look of eight lanes goes over, are shown with no count kept from
-// one to the next: a look at them takes some 11 instructions an entry in place of 15.
+// one to the next: a look takes 12 instructions for each in place of 15.
 #[inline(always)]
 fn show<V: Visitor>(entries: &[Entry], visitor: V) -> V
     ensures { result ≡ fold V.shown visitor (map pair_of entries.now) }

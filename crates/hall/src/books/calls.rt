@@ -82,7 +82,7 @@ fn best_lasts<S: Source>(source: &S, carrier: usize, bid: &Bid, glance: &Glance<
 }
 
 // Whether a bid's best, with a net above 0, is better than later entries of the same net: of equal nets the smaller job is the better,
-// and jobs rise along a row. Not inlined: in a look that needs no such test it would take registers from the loop.
+// and jobs rise along a row. Not inlined, since few looks ask: the others take 1 instruction an entry less for it.
 #[inline(never)]
 fn wins_ties<S: Source>(source: &S, carrier: usize, bid: &Bid) -> bool
     ensures { result ≡ wins_ties (entry_at (S.meaning source.now) carrier bid.now.looked) bid.now.best }
