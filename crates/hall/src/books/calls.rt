@@ -82,7 +82,8 @@ fn best_lasts<S: Source>(source: &S, carrier: usize, bid: &Bid, glance: &Glance<
 }
 
 // Whether a bid's best, with a net above 0, is better than later entries of the same net: of equal nets the smaller job is the better,
-// and jobs rise along a row. Not inlined, since few looks ask: the others take 1 instruction an entry less for it.
+// and jobs rise along a row. Cold and not inlined, since few looks ask: the others take 1.6 instructions an entry less for it.
+#[cold]
 #[inline(never)]
 fn wins_ties<S: Source>(source: &S, carrier: usize, bid: &Bid) -> bool
     ensures { result ≡ wins_ties (entry_at (S.meaning source.now) carrier bid.now.looked) bid.now.best }
@@ -104,6 +105,7 @@ fn follows(job: usize, next: Option<(usize, u64)>) -> bool
 }
 
 // Looks at so many entries one by one, whatever the nets are: for the few looks that a glance does not tell.
+#[cold]
 #[inline(never)]
 fn look_closely<S: Source>(
     source: &S,
