@@ -306,7 +306,6 @@ impl Books {
         Ok(())
     }
 
-    #[inline(never)]
     pub(crate) fn look<S: Source>(&mut self, source: &S, carrier: usize) -> Result<(), Refusal>
         requires { NotedOf (S.meaning source.now) self.old }
         ensures noted { self.new.noted ≡ self.old.noted }
@@ -315,6 +314,16 @@ impl Books {
     {
         self.call_on(source, carrier, Act::Look)?;
         Ok(())
+    }
+
+    // A look of a run, which reads no answer. Not inlined: a run's loop would take registers from the look's.
+    #[inline(never)]
+    pub(super) fn look_in_flight<S: Source>(&mut self, source: &S, carrier: usize)
+        requires { NotedOf (S.meaning source.now) self.old }
+        ensures noted { self.new.noted ≡ self.old.noted }
+        ensures tallied { tally_in self.new ≡ called (S.meaning source.now) carrier Act.Look (tally_in self.old) }
+    {
+        let _ = self.call_on(source, carrier, Act::Look);
     }
 
     // Ends the bid of a carrier, whose standing is lent to be changed; of the others it changes only that of who loses a job.

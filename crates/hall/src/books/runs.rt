@@ -80,7 +80,7 @@ impl Books {
             Became m (λ n. first_acts m first.carrier first.looks_left line flight (tally_in self.old) n) self.new queues.new }
     {
         if first.looks_left > 0 {
-            let _ = self.look(source, first.carrier);
+            self.look_in_flight(source, first.carrier);
             queues.join_flight(first.carrier, first.looks_left - 1);
             return;
         }
