@@ -15,7 +15,7 @@ use Rattle.auction.specs.Tally.{Tally}
 use Rattle.auction.specs.Rules.{bid_after, bid_at, taken, stands, bids, called}
 use Rattle.auction.proofs.Keeping.{call_consistent}
 use Rattle.hall.specs.declared.books.Books.{Books}
-use Rattle.hall.specs.Kept.{Kept, tally_held, prices_of}
+use Rattle.hall.specs.Kept.{Kept, tally_held}
 use Rattle.hall.specs.InBooks.{NotedOf, tally_in}
 use Rattle.hall.specs.Steps.{standing_after, counts_after}
 use Rattle.hall.proofs.Keeps.{kept_out, kept_by}
@@ -28,28 +28,28 @@ module _ (m : Meaning) (i : ℕ) (act : Act) (b : Books) (noted : NotedOf m b) (
   bid_known = ⊎_elim (λ l. omega (arith, ltb-true i m.carriers l, ap (λ h. h.carriers) noted))
       (λ l. let q : Ok x ≡ Err NoSuchCarrier = answer ∙ cond-false (ltb i m.carriers) _ _ l in let z : ◌≡◌ {A = ℕ} 0 1 = cc in absurd (omega arith)) (cases_Bool (ltb i m.carriers))
 
-  pub bid_given : Ok x ≡ bid_after b.lanes (take b.noted.jobs (prices_of b.lots)) (row_of m i) (get_or b.standings i Waiting) act
+  pub bid_given : Ok x ≡ bid_after b.lanes (take b.noted.jobs b.prices) (row_of m i) (get_or b.standings i Waiting) act
   unfolding bid_at
   bid_given =
       answer ∙ cond-true (ltb i m.carriers) _ _ (lt-ltb i m.carriers (omega (arith, bid_known, ap (λ h. h.carriers) noted)))
-      ∙ ap (λ s. bid_after b.lanes (take b.noted.jobs (prices_of b.lots)) (row_of m i) s act) (standing_in b i bid_known)
+      ∙ ap (λ s. bid_after b.lanes (take b.noted.jobs b.prices) (row_of m i) s act) (standing_in b i bid_known)
 
 -- ---- one call, over the books
 
 module _ (m : Meaning) (i : ℕ) (act : Act) (b : Books) (noted : NotedOf m b) (r : Result Bid Refusal) (s : Standing) (n : Counts)
     (known : i < b.noted.carriers)
-    (answer : r ≡ bid_after b.lanes (take m.jobs (prices_of b.lots)) (row_of m i) (get_or b.standings i Waiting) act)
+    (answer : r ≡ bid_after b.lanes (take m.jobs b.prices) (row_of m i) (get_or b.standings i Waiting) act)
     (stood : s ≡ standing_after (get_or b.standings i Waiting) r)
     (numbered : n ≡ counts_after act b.counts r) where
   pub call_answered : r ≡ bid_at m i act (tally_in b)
   unfolding bid_at
   call_answered =
-      answer ∙ ap (λ k. bid_after b.lanes (take k (prices_of b.lots)) (row_of m i) (get_or b.standings i Waiting) act) (sym (ap (λ h. h.jobs) noted))
-      ∙ ap (λ z. bid_after b.lanes (take b.noted.jobs (prices_of b.lots)) (row_of m i) z act) (sym (standing_in b i known))
+      answer ∙ ap (λ k. bid_after b.lanes (take k b.prices) (row_of m i) (get_or b.standings i Waiting) act) (sym (ap (λ h. h.jobs) noted))
+      ∙ ap (λ z. bid_after b.lanes (take b.noted.jobs b.prices) (row_of m i) z act) (sym (standing_in b i known))
       ∙ sym (cond-true (ltb i m.carriers) _ _ (lt-ltb i m.carriers (omega (arith, known, ap (λ h. h.carriers) noted))))
 
   abbrev after : Tally
-  after = tally_held b.noted b.step b.lanes b.lots (set b.standings i s) n
+  after = tally_held b.noted b.step b.lanes b.prices b.holders (set b.standings i s) n
 
   pub call_tallied : after ≡ called m i act (tally_in b)
   call_tallied = each r stood numbered ∙ ap (λ q. taken q (bids act i) (tally_in b)) call_answered
@@ -61,10 +61,10 @@ module _ (m : Meaning) (i : ℕ) (act : Act) (b : Books) (noted : NotedOf m b) (
       each (Err e) st nu =
           same_tally after (tally_in b) refl refl refl refl (ap (take b.noted.carriers) (ap (set b.standings i) st ∙ set-get_or b.standings i Waiting)) nu
 
-  pub call_keeps : Sound m → Kept b.noted b.step b.lanes b.lots (set b.standings i s) n
+  pub call_keeps : Sound m → Kept b.noted b.step b.lanes b.prices b.holders (set b.standings i s) n
   call_keeps sound =
       let k = kept_out b.kept in
-      kept_by (called m i act (tally_in b)) k.lots_long (length-set b.standings i s ∙ k.standings_long) call_tallied
+      kept_by (called m i act (tally_in b)) k.prices_long k.holders_long (length-set b.standings i s ∙ k.standings_long) call_tallied
       (renoted (heading_of m) b.noted (called m i act (tally_in b)) (sym noted)
       (call_consistent m sound (tally_in b) (renoted b.noted (heading_of m) (tally_in b) noted (consistent_in b)) i act))
 

@@ -1,6 +1,6 @@
 -- The books' invariant: how it comes out of the ghost field, and how it is made.
 use Prim.{IsProp}
-use Rattle.std.proofs.Common.{◌≡◌, ℕ, List, length, sym, subst}
+use Rattle.std.proofs.Common.{◌≡◌, ℕ, List, length, Option, sym, subst}
 use mathlib.Core.Logic.{∥∥₁_elim}
 use native.Mathlib.Nat.{ℕ_set}
 use Rattle.sources.specs.declared.form.Heading.{Heading}
@@ -9,22 +9,22 @@ use Rattle.auction.specs.declared.standing.Standing.{Standing}
 use Rattle.auction.specs.Tally.{Tally}
 use Rattle.auction.specs.Consistent.{Consistent}
 use Rattle.auction.proofs.Props.{consistent_prop}
-use Rattle.hall.specs.declared.books.Lot.{Lot}
 use Rattle.hall.specs.Kept.{Kept, tally_held}
 
-module _ {noted : Heading} {step lanes : ℕ} {lots : List Lot} {standings : List Standing} {n : Counts} where
-  kept_prop : IsProp (Kept noted step lanes lots standings n)
+module _ {noted : Heading} {step lanes : ℕ} {prices : List ℕ} {holders : List (Option ℕ)} {standings : List Standing} {n : Counts} where
+  kept_prop : IsProp (Kept noted step lanes prices holders standings n)
   kept_prop p q = λ i. record {
-    lots_long = ℕ_set (length lots) 256 p.lots_long q.lots_long i;
+    prices_long = ℕ_set (length prices) 256 p.prices_long q.prices_long i;
+    holders_long = ℕ_set (length holders) 256 p.holders_long q.holders_long i;
     standings_long = ℕ_set (length standings) 128 p.standings_long q.standings_long i;
-    consistent = consistent_prop noted.carriers noted.jobs noted.ceiling (tally_held noted step lanes lots standings n) p.consistent q.consistent i;
+    consistent = consistent_prop noted.carriers noted.jobs noted.ceiling (tally_held noted step lanes prices holders standings n) p.consistent q.consistent i;
   }
 
   -- Out of the ghost field.
-  pub kept_out : ∥ Kept noted step lanes lots standings n ∥₁ → Kept noted step lanes lots standings n
+  pub kept_out : ∥ Kept noted step lanes prices holders standings n ∥₁ → Kept noted step lanes prices holders standings n
   kept_out h = ∥∥₁_elim h kept_prop (λ k. k)
 
   -- From a consistent tally that the tables hold.
-  pub kept_by : (t : Tally) → length lots ≡ 256 → length standings ≡ 128 → tally_held noted step lanes lots standings n ≡ t →
-      Consistent noted.carriers noted.jobs noted.ceiling t → Kept noted step lanes lots standings n
-  kept_by t l s e c = record { lots_long = l; standings_long = s; consistent = subst (Consistent noted.carriers noted.jobs noted.ceiling) (sym e) c }
+  pub kept_by : (t : Tally) → length prices ≡ 256 → length holders ≡ 256 → length standings ≡ 128 → tally_held noted step lanes prices holders standings n ≡ t →
+      Consistent noted.carriers noted.jobs noted.ceiling t → Kept noted step lanes prices holders standings n
+  kept_by t p h s e c = record { prices_long = p; holders_long = h; standings_long = s; consistent = subst (Consistent noted.carriers noted.jobs noted.ceiling) (sym e) c }

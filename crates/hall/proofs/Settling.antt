@@ -1,7 +1,7 @@
 -- A settled bid: the verdict, what its end leaves in the tables, and the tally after.
 use Rattle.std.proofs.Common.{◌≡◌, ℕ, ◌^◌, ◌<◌, ◌≤◌, cond, leb, ◌≢◌, List, length, get_or, take, set, pos, Some, None, Ok, Option, sym, refl, ap, ◌∙◌, subst, arith}
 use lib.Signed.{lt_z}
-use Rattle.std.proofs.lemmas.List.{map-set, length-set, get_or-take, set_comm, set-get_or}
+use Rattle.std.proofs.lemmas.List.{length-set, get_or-take, set_comm, set-get_or}
 use Rattle.std.proofs.lemmas.Bool.{cond_both, both_ways}
 use Rattle.sources.specs.Meaning.{Meaning, row_of}
 use Rattle.auction.specs.declared.standing.Best.{Best}
@@ -21,8 +21,7 @@ use Rattle.auction.specs.Rules.{bid_at, taken, stands, bids, called, freed, carr
 use Rattle.auction.proofs.Matching.{holder_is, length-freed, holder_known}
 use Rattle.auction.proofs.Keeping.{ended_consistent, settle_stands}
 use Rattle.hall.specs.declared.books.Books.{Books}
-use Rattle.hall.specs.declared.books.Lot.{Lot}
-use Rattle.hall.specs.Kept.{Kept, tally_held, prices_of, holders_of}
+use Rattle.hall.specs.Kept.{Kept, tally_held}
 use Rattle.hall.specs.InBooks.{NotedOf, tally_in}
 use Rattle.hall.specs.Steps.{standing_ended, counts_ended}
 use Rattle.hall.proofs.Keeps.{kept_out, kept_by}
@@ -83,9 +82,9 @@ module _ (b : Books) (i : ℕ) (x : Bid) (known : i < b.noted.carriers) (bidding
   pub ends_sound : BidSound 256 (2 ^ 36) x.runner_up x.best
   ends_sound = wider b.noted.jobs b.noted.ceiling 256 (2 ^ 36) x.runner_up x.best (consistent_in b).limits.few_jobs (consistent_in b).limits.low_ceiling sound_bid
 
-  module _ (v : Verdict) (judged-is : v ≡ judged b.step (prices_of b.lots) (holders_of b.lots) x) where
+  module _ (v : Verdict) (judged-is : v ≡ judged b.step b.prices b.holders x) where
     pub ends_ruled : v ≡ verdict_in (tally_in b) x
-    ends_ruled = judged-is ∙ judged_cut b.noted.jobs b.noted.ceiling b.step (prices_of b.lots) (holders_of b.lots) x sound_bid
+    ends_ruled = judged-is ∙ judged_cut b.noted.jobs b.noted.ceiling b.step b.prices b.holders x sound_bid
 
     ended_by : (w : Verdict) → v ≡ w → carried_out i worth w (tally_in b) ≡ ended i x (tally_in b)
     ended_by w e = ap (λ z. carried_out i worth z (tally_in b)) (sym e ∙ ends_ruled)
@@ -96,7 +95,7 @@ module _ (b : Books) (i : ℕ) (x : Bid) (known : i < b.noted.carriers) (bidding
     module _ (s : Standing) (n : Counts) (stood : s ≡ standing_ended worth v) (numbered : n ≡ counts_ended b.counts v) where
       -- Nothing is awarded.
       module _ (none : (a : Award) → v ≡ Awarded a → ⊥) where
-        pub none_in : tally_held b.noted b.step b.lanes b.lots (set b.standings i s) n ≡ ended i x (tally_in b)
+        pub none_in : tally_held b.noted b.step b.lanes b.prices b.holders (set b.standings i s) n ≡ ended i x (tally_in b)
         none_in = stands_in b i s n ∙ each v refl
           where
             each : (w : Verdict) → v ≡ w → stands i s n (tally_in b) ≡ ended i x (tally_in b)
@@ -105,14 +104,14 @@ module _ (b : Books) (i : ℕ) (x : Bid) (known : i < b.noted.carriers) (bidding
                 ap (λ z. stands i z n (tally_in b)) (stood ∙ ap (standing_ended worth) e)
                 ∙ ap (λ z. stands i (standing_ended worth w) z (tally_in b)) (numbered ∙ ap (counts_ended b.counts) e) ∙ ended_by w e
 
-        pub none_keeps : Kept b.noted b.step b.lanes b.lots (set b.standings i s) n
+        pub none_keeps : Kept b.noted b.step b.lanes b.prices b.holders (set b.standings i s) n
         none_keeps =
             let k = kept_out b.kept in
-            kept_by (ended i x (tally_in b)) k.lots_long (length-set b.standings i s ∙ k.standings_long) none_in consistent_after
+            kept_by (ended i x (tally_in b)) k.prices_long k.holders_long (length-set b.standings i s ∙ k.standings_long) none_in consistent_after
 
       module _ (a : Award) (e : v ≡ Awarded a) where
         won_here : (a.job < b.noted.jobs) × (holder_at (tally_in b) a.job ≡ a.displaced)
-        won_here = won b.noted.jobs b.noted.ceiling b.step x.runner_up (take b.noted.jobs (prices_of b.lots)) (take b.noted.jobs (holders_of b.lots)) x.best a sound_bid (sym ends_ruled ∙ e)
+        won_here = won b.noted.jobs b.noted.ceiling b.step x.runner_up (take b.noted.jobs b.prices) (take b.noted.jobs b.holders) x.best a sound_bid (sym ends_ruled ∙ e)
 
         pub job_known : a.job < 256
         job_known = omega (arith, won_here.0, (consistent_in b).limits.few_jobs)
@@ -126,28 +125,25 @@ module _ (b : Books) (i : ℕ) (x : Bid) (known : i < b.noted.carriers) (bidding
             both_ways (is_holder i (holder_at (tally_in b) a.job)) ((consistent_in b).matched i a.job ∙ ap (holds_job a.job) bidding)
             (holder_is i (holder_at (tally_in b) a.job) (won_here.1 ∙ q ∙ ap Some (sym p)))
 
-        abbrev lot : Lot
-        lot = record { price = a.price; holder = Some i }
-
         abbrev mine : Standing
         mine = Served (record { job = a.job; worth = worth })
 
         pub award_in : (ss : List Standing) → ss ≡ freed (set b.standings i s) a.displaced →
-            tally_held b.noted b.step b.lanes (set b.lots a.job lot) ss n ≡ ended i x (tally_in b)
+            tally_held b.noted b.step b.lanes (set b.prices a.job a.price) (set b.holders a.job (Some i)) ss n ≡ ended i x (tally_in b)
         award_in ss f =
             same_tally _ (carried_out i worth (Awarded a) (tally_in b)) refl refl
-            (ap (take b.noted.jobs) (map-set (λ l. l.price) b.lots a.job lot) ∙ take_set_any b.noted.jobs (prices_of b.lots) a.job a.price)
-            (ap (take b.noted.jobs) (map-set (λ l. l.holder) b.lots a.job lot) ∙ take_set_any b.noted.jobs (holders_of b.lots) a.job (Some i))
+            (take_set_any b.noted.jobs b.prices a.job a.price)
+            (take_set_any b.noted.jobs b.holders a.job (Some i))
             (ap (take b.noted.carriers)
             (f ∙ ap (λ z. freed (set b.standings i z) a.displaced) (stood ∙ ap (standing_ended worth) e) ∙ freed_set b.standings a.displaced i mine former_other)
             ∙ take_set_any b.noted.carriers (freed b.standings a.displaced) i mine
             ∙ ap (λ zs. set zs i mine) (take-freed b.noted.carriers b.standings a.displaced))
             (numbered ∙ ap (counts_ended b.counts) e) ∙ ended_by (Awarded a) e
 
-        pub award_keeps : (ss : List Standing) → ss ≡ freed (set b.standings i s) a.displaced → Kept b.noted b.step b.lanes (set b.lots a.job lot) ss n
+        pub award_keeps : (ss : List Standing) → ss ≡ freed (set b.standings i s) a.displaced → Kept b.noted b.step b.lanes (set b.prices a.job a.price) (set b.holders a.job (Some i)) ss n
         award_keeps ss f =
             let k = kept_out b.kept in
-            kept_by (ended i x (tally_in b)) (length-set b.lots a.job lot ∙ k.lots_long)
+            kept_by (ended i x (tally_in b)) (length-set b.prices a.job a.price ∙ k.prices_long) (length-set b.holders a.job (Some i) ∙ k.holders_long)
             (ap length f ∙ length-freed (set b.standings i s) a.displaced ∙ length-set b.standings i s ∙ k.standings_long) (award_in ss f) consistent_after
 
 -- ---- settle, whole
@@ -157,7 +153,7 @@ module _ (m : Meaning) (i : ℕ) (x : Bid) (old new : Books) (noted : NotedOf m 
   stood : standing_at (tally_in old) i ≡ Bidding x
   stood =
       standing_in old i (bid_known m i Settle old noted x answer)
-      ∙ settle_stands old.lanes (take old.noted.jobs (prices_of old.lots)) (row_of m i) (get_or old.standings i Waiting) x (sym (bid_given m i Settle old noted x answer))
+      ∙ settle_stands old.lanes (take old.noted.jobs old.prices) (row_of m i) (get_or old.standings i Waiting) x (sym (bid_given m i Settle old noted x answer))
 
   -- The bid is found, and nothing is changed yet.
   unchanged : bids Settle i x (tally_in old) ≡ tally_in old

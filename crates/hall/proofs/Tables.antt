@@ -15,7 +15,7 @@ use Rattle.auction.specs.Consistent.{Consistent, Limits}
 use Rattle.auction.proofs.Keeping.{opened_consistent}
 use Rattle.hall.specs.declared.books.Books.{Books}
 use Rattle.sources.specs.declared.form.Heading.{Heading}
-use Rattle.hall.specs.Kept.{Kept, unsold, tally_held, prices_of}
+use Rattle.hall.specs.Kept.{Kept, tally_held}
 use Rattle.hall.specs.InBooks.{NotedOf, tally_in}
 use Rattle.hall.proofs.Keeps.{kept_out, kept_by}
 
@@ -33,15 +33,16 @@ take-freed n ss None = refl
 take-freed n ss (Some j) = take_set_any n ss j Waiting
 
 -- Books with equal fields are equal: the ghost field is a fact.
-pub same_books : (a b : Books) → a.noted ≡ b.noted → a.step ≡ b.step → a.lanes ≡ b.lanes → a.lots ≡ b.lots → a.standings ≡ b.standings → a.counts ≡ b.counts → a ≡ b
-same_books a b e1 e2 e3 e4 e5 e6 = λ i. record {
+pub same_books : (a b : Books) → a.noted ≡ b.noted → a.step ≡ b.step → a.lanes ≡ b.lanes → a.prices ≡ b.prices → a.holders ≡ b.holders → a.standings ≡ b.standings → a.counts ≡ b.counts → a ≡ b
+same_books a b e1 e2 e3 e4 e5 e6 e7 = λ i. record {
   noted = e1 i;
   step = e2 i;
   lanes = e3 i;
-  lots = e4 i;
-  standings = e5 i;
-  counts = e6 i;
-  kept = is_prop→PathP (λ j. ∥ Kept (e1 j) (e2 j) (e3 j) (e4 j) (e5 j) (e6 j) ∥₁) (λ j. ∥∥₁_prop) a.kept b.kept i;
+  prices = e4 i;
+  holders = e5 i;
+  standings = e6 i;
+  counts = e7 i;
+  kept = is_prop→PathP (λ j. ∥ Kept (e1 j) (e2 j) (e3 j) (e4 j) (e5 j) (e6 j) (e7 j) ∥₁) (λ j. ∥∥₁_prop) a.kept b.kept i;
 }
 
 -- What is consistent by the numbers that start noted is so by those of the source, and the other way.
@@ -54,10 +55,10 @@ consistent_in b = (kept_out b.kept).consistent
 pub few_places : (b : Books) (i : ℕ) → i < b.noted.carriers → i < 128
 few_places b i l = omega (arith, l, (consistent_in b).limits.few_carriers)
 
-pub low_prices_in : (m : Meaning) (b : Books) → NotedOf m b → (j : ℕ) → get_or (take m.jobs (prices_of b.lots)) j 0 ≤ 2 ^ 37
+pub low_prices_in : (m : Meaning) (b : Books) → NotedOf m b → (j : ℕ) → get_or (take m.jobs b.prices) j 0 ≤ 2 ^ 37
 low_prices_in m b o j =
     let k = consistent_in b in
-    let e : get_or (take b.noted.jobs (prices_of b.lots)) j 0 ≡ get_or (take m.jobs (prices_of b.lots)) j 0 = ap (λ n. get_or (take n (prices_of b.lots)) j 0) (ap (λ h. h.jobs) o) in
+    let e : get_or (take b.noted.jobs b.prices) j 0 ≡ get_or (take m.jobs b.prices) j 0 = ap (λ n. get_or (take n b.prices) j 0) (ap (λ h. h.jobs) o) in
     omega (arith, e, k.low_prices j, k.limits.low_ceiling, k.limits.low_step)
 
 -- A carrier's place in the table and in the tally.
@@ -84,9 +85,9 @@ standing_sound b i l =
 
 -- A standing in the table is one in the tally.
 pub stands_in : (b : Books) (i : ℕ) (s : Standing) (n : Counts) →
-    tally_held b.noted b.step b.lanes b.lots (set b.standings i s) n ≡ stands i s n (tally_in b)
+    tally_held b.noted b.step b.lanes b.prices b.holders (set b.standings i s) n ≡ stands i s n (tally_in b)
 stands_in b i s n =
-    same_tally (tally_held b.noted b.step b.lanes b.lots (set b.standings i s) n) (stands i s n (tally_in b)) refl refl refl refl
+    same_tally (tally_held b.noted b.step b.lanes b.prices b.holders (set b.standings i s) n) (stands i s n (tally_in b)) refl refl refl refl
     (take_set_any b.noted.carriers b.standings i s) refl
 
 -- ---- books just opened
@@ -95,13 +96,13 @@ pub all_zero : (n : Counts) → n.summonses ≡ 0 → n.awards ≡ 0 → n.stale
 all_zero n a b c d = λ i. record { summonses = a i; awards = b i; stales = c i; outs = d i }
 
 module _ (h : Heading) (step lanes : ℕ) (lim : Limits h.carriers h.jobs h.ceiling step lanes) (n : Counts) (zero-is : n ≡ no_counts) where
-  pub opened_is : tally_held h step lanes (replicate 256 unsold) (replicate 128 Waiting) n ≡ opened h.carriers h.jobs step lanes
+  pub opened_is : tally_held h step lanes (replicate 256 0) (replicate 256 None) (replicate 128 Waiting) n ≡ opened h.carriers h.jobs step lanes
   unfolding opened
   opened_is =
-      same_tally (tally_held h step lanes (replicate 256 unsold) (replicate 128 Waiting) n) (opened h.carriers h.jobs step lanes) refl refl
+      same_tally (tally_held h step lanes (replicate 256 0) (replicate 256 None) (replicate 128 Waiting) n) (opened h.carriers h.jobs step lanes) refl refl
       (take-replicate h.jobs 256 0 lim.few_jobs)
       (take-replicate h.jobs 256 None lim.few_jobs)
       (take-replicate h.carriers 128 Waiting lim.few_carriers) zero-is
 
-  pub opened_keeps : Kept h step lanes (replicate 256 unsold) (replicate 128 Waiting) n
-  opened_keeps = kept_by (opened h.carriers h.jobs step lanes) refl refl opened_is (opened_consistent h.carriers h.jobs h.ceiling step lanes lim)
+  pub opened_keeps : Kept h step lanes (replicate 256 0) (replicate 256 None) (replicate 128 Waiting) n
+  opened_keeps = kept_by (opened h.carriers h.jobs step lanes) refl refl refl opened_is (opened_consistent h.carriers h.jobs h.ceiling step lanes lim)

@@ -1,29 +1,27 @@
 -- What a glance is after one more entry, and when the best that it began with is the best after it.
-use Rattle.std.specs.Prelude.{ℕ, ◌+◌, ◌-◌, ◌%◌, ◌^◌, Bool, false, cond, ◌&&◌, ◌||◌, ℤ, pos, List, Some, None, Option, int_lt, nat_lt, slice_index_or}
+use Rattle.std.specs.Prelude.{ℕ, ◌+◌, ◌-◌, ◌%◌, ◌^◌, Bool, false, cond, ◌&&◌, ◌||◌, ℤ, pos, List, Some, None, Option, int_lt, nat_lt, slice_index}
 use Rattle.std.specs.Int.{int_max, cast_signed, w64}
 use Rattle.auction.specs.declared.standing.Best.{Best}
 use Rattle.auction.specs.Bids.{natural}
-use Rattle.hall.specs.declared.books.Lot.{Lot}
 use Rattle.hall.specs.declared.books.glance.Glance.{Glance}
-use Rattle.hall.specs.Kept.{unsold}
 
 -- Worth minus price, in 64 bits.
 abbrev pub net_in : ℕ → ℕ → ℤ
 net_in worth price = cast_signed w64 ((worth + (2 ^ 64 - price)) % 2 ^ 64)
 
-abbrev pub price_held : List Lot → ℕ → ℕ
-price_held lots job = (slice_index_or lots (job % 256) unsold).price
+abbrev pub price_held : List ℕ → ℕ → ℕ
+price_held prices job = slice_index prices (job % 256)
 
 abbrev pub glanced_at : ℤ → ℕ → Glance → Glance
 glanced_at net job s = record {
-  lots = s.lots;
+  prices = s.prices;
   net = cond (int_lt s.net net) net s.net;
   job = cond (int_lt s.net net) job s.job;
   runner_up = int_max s.runner_up (cond (int_lt s.net net) s.net net);
 }
 
 abbrev pub glanced : Glance → ℕ × ℕ → Glance
-glanced s e = glanced_at (net_in e.1 (price_held s.lots.now e.0)) (e.0 % 256) s
+glanced s e = glanced_at (net_in e.1 (price_held s.prices.now e.0)) (e.0 % 256) s
 
 -- The best net, 0 if there is none above it.
 abbrev pub top_net : Option Best → ℕ

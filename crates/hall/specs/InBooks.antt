@@ -12,7 +12,7 @@ abbrev pub NotedOf : Meaning → Books → Type 0
 NotedOf m b = b.noted ≡ heading_of m
 
 abbrev pub tally_in : Books → Tally
-tally_in b = tally_held b.noted b.step b.lanes b.lots b.standings b.counts
+tally_in b = tally_held b.noted b.step b.lanes b.prices b.holders b.standings b.counts
 
 -- None where the hall was never started.
 abbrev pub tally_of : Option Books → Option Tally

@@ -1,8 +1,7 @@
 -- What the private functions of the books answer and leave.
-use Rattle.std.specs.Prelude.{ℕ, cond, List, take, Ok, Err, Result, nat_lt, slice_index_or}
+use Rattle.std.specs.Prelude.{ℕ, List, take, Ok, Err, Result}
 use Rattle.sources.specs.Meaning.{Meaning, row_of}
 use Rattle.refusals.specs.declared.Refusal.{Refusal}
-use Rattle.refusals.specs.declared.Refusal.TheVariants.{NoSuchJob}
 use Rattle.auction.specs.declared.standing.Bid.{Bid}
 use Rattle.auction.specs.declared.standing.Act.{Act}
 use Rattle.auction.specs.declared.standing.Counts.{Counts}
@@ -11,16 +10,10 @@ use Rattle.auction.specs.declared.standing.Standing.TheVariants.{Waiting, Biddin
 use Rattle.auction.specs.declared.standing.Verdict.{Verdict}
 use Rattle.auction.specs.declared.standing.Verdict.TheVariants.{Out as GoesOut, Stale, Awarded}
 use Rattle.auction.specs.Rules.{counted, counted_out, counted_stale, counted_award, bid_after}
-use Rattle.hall.specs.declared.books.Books.{Books}
-use Rattle.hall.specs.declared.books.Lot.{Lot}
-use Rattle.hall.specs.Kept.{prices_of, unsold}
 
-abbrev pub lot_answer : ℕ → Books → Result Lot Refusal
-lot_answer j b = cond (nat_lt j b.noted.jobs) (Ok (slice_index_or b.lots j unsold)) (Err NoSuchJob)
-
--- What a carrier's standing and an act lead to, at the prices in these lots.
-abbrev pub bid_from : Meaning → ℕ → List Lot → ℕ → Standing → Act → Result Bid Refusal
-bid_from m lanes lots i s act = bid_after lanes (take m.jobs (prices_of lots)) (row_of m i) s act
+-- What a carrier's standing and an act lead to, at these prices.
+abbrev pub bid_from : Meaning → ℕ → List ℕ → ℕ → Standing → Act → Result Bid Refusal
+bid_from m lanes prices i s act = bid_after lanes (take m.jobs prices) (row_of m i) s act
 
 -- A bid that is begun or carried on is the carrier's standing after.
 abbrev pub standing_after : Standing → Result Bid Refusal → Standing

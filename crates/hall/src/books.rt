@@ -11,23 +11,18 @@ mod questions;
 mod queues;
 mod runs;
 
-// What is kept of a job: its price, and the carrier that holds it, if there is one.
-#[derive(Clone, Copy)]
-struct Lot {
-    price: u64,
-    holder: Option<usize>,
-}
-
-/// Of `lots` the first `noted.jobs` are used, and of `standings` the first `noted.carriers`. Arrays: no heap is used here, since C
-/// calls it.
+/// Of `prices` and `holders` the first `noted.jobs` are used, and of `standings` the first `noted.carriers`. Arrays: no heap is used
+/// here, since C calls it. The prices stand close together, since a look reads one for each entry.
 #[derive(Drop)]
 pub struct Books {
     // What start noted of the source.
     noted: Heading,
     step: u64,
     lanes: usize,
-    lots: [Lot; MOST_JOBS],
+    prices: [u64; MOST_JOBS],
+    // The carrier that holds each job, if there is one.
+    holders: [Option<usize>; MOST_JOBS],
     standings: [Standing; MOST_CARRIERS],
     counts: Counts,
-    ghost kept: { ∥ Kept noted step lanes lots standings counts ∥₁ },
+    ghost kept: { ∥ Kept noted step lanes prices holders standings counts ∥₁ },
 }

@@ -12,13 +12,12 @@ ghost use Rattle.auction.specs.Rules.{opened, start_answer, start_tally, bid_at,
 ghost use Rattle.auction.specs.Standings.{BidSound, StandingSound};
 ghost use Rattle.auction.specs.Tally.{standing_at};
 ghost use Rattle.hall.specs.Glances.{lasts, wins_ties, follows};
-ghost use Rattle.hall.specs.Kept.{prices_of, holders_of};
 ghost use Rattle.hall.specs.InBooks.{NotedOf, tally_in};
 ghost use Rattle.hall.specs.Ruled.{Ruled};
 ghost use Rattle.hall.specs.Steps.{counts_after, standing_after, counts_ended, standing_ended, bid_from};
 
+use super::Books;
 use super::glance::Glance;
-use super::{Books, Lot};
 use crate::weighing::{Seen, best_worth, merged};
 use auction::limits::{HIGHEST_STEP, MOST_LANES};
 use auction::standing::{Act, Award, Bid, Counts, Held, Standing, Verdict};
@@ -45,21 +44,21 @@ pub(crate) fn check_start<S: Source>(source: &S, step: u64, lanes: usize) -> Res
 // Looks at the next entries of the carrier's row, as many as there are lanes, or as many as are left.
 fn look_on<S: Source>(
     source: &S,
-    lots: &[Lot; MOST_JOBS],
+    prices: &[u64; MOST_JOBS],
     lanes: usize,
     carrier: usize,
     entries: usize,
     bid: &mut Bid,
 )
     requires few_jobs { (S.meaning source.now).jobs ≤ most_jobs }
-    requires low_prices { (j : ℕ) → slice_index (take (S.meaning source.now).jobs (prices_of lots.now)) j ≤ 2 ^ 37 }
+    requires low_prices { (j : ℕ) → slice_index (take (S.meaning source.now).jobs prices.now) j ≤ 2 ^ 37 }
     requires sound { BidSound most_jobs highest_ceiling bid.old.runner_up bid.old.best }
     requires long { entries ≡ length (row_of (S.meaning source.now) carrier) }
     requires inside { bid.old.looked ≤ entries }
-    ensures { let m = S.meaning source.now in bid.new ≡ looked_on lanes (take m.jobs (prices_of lots.now)) (row_of m carrier) bid.old }
+    ensures { let m = S.meaning source.now in bid.new ≡ looked_on lanes (take m.jobs prices.now) (row_of m carrier) bid.old }
 {
     let count = lanes.min(entries - bid.looked);
-    let glance = source.visit(carrier, bid.looked, count, Glance::new(lots, *bid));
+    let glance = source.visit(carrier, bid.looked, count, Glance::new(prices, *bid));
     if glance.found() {
         *bid = Bid {
             looked: bid.looked + count,
@@ -70,7 +69,7 @@ fn look_on<S: Source>(
         bid.looked += count;
         bid.runner_up = glance.runner_up();
     } else {
-        look_closely(source, lots, count, carrier, bid);
+        look_closely(source, prices, count, carrier, bid);
     }
 }
 
@@ -109,20 +108,20 @@ fn follows(job: usize, next: Option<(usize, u64)>) -> bool
 #[inline(never)]
 fn look_closely<S: Source>(
     source: &S,
-    lots: &[Lot; MOST_JOBS],
+    prices: &[u64; MOST_JOBS],
     count: usize,
     carrier: usize,
     bid: &mut Bid,
 )
     requires few_jobs { (S.meaning source.now).jobs ≤ most_jobs }
-    requires low_prices { (j : ℕ) → slice_index (take (S.meaning source.now).jobs (prices_of lots.now)) j ≤ 2 ^ 37 }
+    requires low_prices { (j : ℕ) → slice_index (take (S.meaning source.now).jobs prices.now) j ≤ 2 ^ 37 }
     requires inside { bid.old.looked + count ≤ length (row_of (S.meaning source.now) carrier) }
-    ensures { let m = S.meaning source.now in bid.new ≡ looked_on count (take m.jobs (prices_of lots.now)) (row_of m carrier) bid.old }
+    ensures { let m = S.meaning source.now in bid.new ≡ looked_on count (take m.jobs prices.now) (row_of m carrier) bid.old }
 {
     let mut seen = Seen::nothing();
     for place in bid.looked..bid.looked + count {
         let (job, worth) = source.entry(carrier, place).unwrap_or((0, 0));
-        seen = seen.and(job, worth, lots[job].price);
+        seen = seen.and(job, worth, prices[job]);
     }
     *bid = merged(*bid, count, seen);
 }
@@ -132,7 +131,7 @@ fn look_closely<S: Source>(
 #[inline(always)]
 fn respond<S: Source>(
     source: &S,
-    lots: &[Lot; MOST_JOBS],
+    prices: &[u64; MOST_JOBS],
     lanes: usize,
     carrier: usize,
     standing: &mut Standing,
@@ -140,10 +139,10 @@ fn respond<S: Source>(
     act: Act,
 ) -> Result<Bid, Refusal>
     requires few_jobs { (S.meaning source.now).jobs ≤ most_jobs }
-    requires low_prices { (j : ℕ) → slice_index (take (S.meaning source.now).jobs (prices_of lots.now)) j ≤ 2 ^ 37 }
+    requires low_prices { (j : ℕ) → slice_index (take (S.meaning source.now).jobs prices.now) j ≤ 2 ^ 37 }
     requires sound { StandingSound most_jobs highest_ceiling standing.old }
     requires few_summonses { counts.old.summonses ≤ 2 ^ 53 }
-    ensures answered { result ≡ bid_from (S.meaning source.now) lanes lots.now carrier standing.old act }
+    ensures answered { result ≡ bid_from (S.meaning source.now) lanes prices.now carrier standing.old act }
     ensures stood { standing.new ≡ standing_after standing.old result }
     ensures numbered { counts.new ≡ counts_after act counts.old result }
 {
@@ -163,7 +162,7 @@ fn respond<S: Source>(
             if bid.looked >= entries {
                 return Err(Refusal::RowLookedAt);
             }
-            look_on(source, lots, lanes, carrier, entries, bid);
+            look_on(source, prices, lanes, carrier, entries, bid);
             Ok(*bid)
         }
         (Standing::Bidding(bid), Act::Settle) => {
@@ -182,10 +181,15 @@ fn respond<S: Source>(
 }
 
 // What becomes of a bid at these prices.
-fn judge(step: u64, lots: &[Lot; MOST_JOBS], bid: Bid) -> Verdict
+fn judge(
+    step: u64,
+    prices: &[u64; MOST_JOBS],
+    holders: &[Option<usize>; MOST_JOBS],
+    bid: Bid,
+) -> Verdict
     requires low_step { step ≤ highest_step }
     requires sound { BidSound most_jobs highest_ceiling bid.runner_up bid.best }
-    ensures { result ≡ judged step (prices_of lots.now) (holders_of lots.now) bid }
+    ensures { result ≡ judged step prices.now holders.now bid }
 {
     let Some(best) = bid.best else {
         return Verdict::Out;
@@ -194,21 +198,21 @@ fn judge(step: u64, lots: &[Lot; MOST_JOBS], bid: Bid) -> Verdict
         return Verdict::Out;
     }
     let price = best.worth - bid.runner_up + step;
-    let lot = lots[best.job];
-    if price <= lot.price {
+    if price <= prices[best.job] {
         return Verdict::Stale;
     }
     Verdict::Awarded(Award {
         job: best.job,
         price,
-        displaced: lot.holder,
+        displaced: holders[best.job],
     })
 }
 
 // Ends a carrier's bid. Its standing alone is lent to be changed.
 fn conclude(
     step: u64,
-    lots: &[Lot; MOST_JOBS],
+    prices: &[u64; MOST_JOBS],
+    holders: &[Option<usize>; MOST_JOBS],
     bid: Bid,
     standing: &mut Standing,
     counts: &mut Counts,
@@ -218,11 +222,11 @@ fn conclude(
     requires few_awards { counts.old.awards ≤ 2 ^ 52 }
     requires few_stales { counts.old.stales ≤ 2 ^ 52 }
     requires few_outs { counts.old.outs ≤ 2 ^ 52 }
-    ensures answered { result ≡ judged step (prices_of lots.now) (holders_of lots.now) bid }
+    ensures answered { result ≡ judged step prices.now holders.now bid }
     ensures stood { standing.new ≡ standing_ended (best_worth bid.best) result }
     ensures numbered { counts.new ≡ counts_ended counts.old result }
 {
-    let verdict = judge(step, lots, bid);
+    let verdict = judge(step, prices, holders, bid);
     match verdict {
         Verdict::Out => {
             *standing = Standing::Out;
@@ -264,10 +268,8 @@ impl Books {
             noted: heading,
             step,
             lanes,
-            lots: [Lot {
-                price: 0,
-                holder: None,
-            }; MOST_JOBS],
+            prices: [0; MOST_JOBS],
+            holders: [None; MOST_JOBS],
             standings: [Standing::Waiting; MOST_CARRIERS],
             counts: Counts::default(),
         }
@@ -288,7 +290,7 @@ impl Books {
         }
         respond(
             source,
-            &self.lots,
+            &self.prices,
             self.lanes,
             carrier,
             &mut self.standings[carrier],
@@ -336,16 +338,15 @@ impl Books {
     {
         let verdict = conclude(
             self.step,
-            &self.lots,
+            &self.prices,
+            &self.holders,
             bid,
             &mut self.standings[carrier],
             &mut self.counts,
         );
         if let Verdict::Awarded(award) = verdict {
-            self.lots[award.job] = Lot {
-                price: award.price,
-                holder: Some(carrier),
-            };
+            self.prices[award.job] = award.price;
+            self.holders[award.job] = Some(carrier);
             free(&mut self.standings, award.displaced);
         }
         verdict

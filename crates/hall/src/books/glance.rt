@@ -3,7 +3,6 @@ ghost use Rattle.std.specs.Prelude.{◌≡◌, ◌+◌, ◌^◌, ◌<◌, ◌≤
 ghost use Rattle.auction.specs.Bids.{natural};
 ghost use Rattle.hall.specs.Glances.{top_net};
 
-use super::Lot;
 use crate::weighing::either;
 use auction::standing::{Best, Bid};
 use sources::checks::MOST_JOBS;
@@ -14,7 +13,7 @@ use sources::visitor::Visitor;
 // so that none needs a test.
 #[derive(Clone, Copy)]
 pub(super) struct Glance<'a> {
-    lots: &'a [Lot; MOST_JOBS],
+    prices: &'a [u64; MOST_JOBS],
     net: i64,
     job: usize,
     runner_up: i64,
@@ -24,15 +23,15 @@ impl<'a> Glance<'a> {
     ghost use Rattle.hall.specs.Glances.{price_held};
 
     // Nothing more was looked at.
-    pub(super) fn new(lots: &'a [Lot; MOST_JOBS], bid: Bid) -> Self
+    pub(super) fn new(prices: &'a [u64; MOST_JOBS], bid: Bid) -> Self
         requires low { bid.runner_up ≤ 2 ^ 60 }
-        ensures lots { result.lots.now ≡ lots.now }
+        ensures prices { result.prices.now ≡ prices.now }
         ensures net { result.net ≡ pos (top_net bid.best) }
         ensures job { result.job ≡ 256 }
         ensures runner_up { result.runner_up ≡ pos bid.runner_up }
     {
         Glance {
-            lots,
+            prices,
             net: top_net(bid.best),
             job: MOST_JOBS,
             runner_up: bid.runner_up as i64,
@@ -49,15 +48,15 @@ impl<'a> Glance<'a> {
     // That entry: its worth is its net and its price.
     pub(super) fn best(&self) -> Best
         requires some { 0 < natural self.now.net }
-        requires low { natural self.now.net + price_held self.now.lots.now self.now.job ≤ 2 ^ 60 }
+        requires low { natural self.now.net + price_held self.now.prices.now self.now.job ≤ 2 ^ 60 }
         ensures net { result.net ≡ self.now.net }
         ensures job { result.job ≡ self.now.job }
-        ensures worth { result.worth ≡ natural self.now.net + price_held self.now.lots.now self.now.job }
+        ensures worth { result.worth ≡ natural self.now.net + price_held self.now.prices.now self.now.job }
     {
         Best {
             net: self.net,
             job: self.job,
-            worth: self.net as u64 + self.lots[self.job % MOST_JOBS].price,
+            worth: self.net as u64 + self.prices[self.job % MOST_JOBS],
         }
     }
 
@@ -96,10 +95,10 @@ impl Visitor for Glance<'_> {
     fn see(self, entry: (usize, u64)) -> Self {
         let (job, worth) = entry;
         let job = job % MOST_JOBS;
-        let net = worth.wrapping_sub(self.lots[job].price).cast_signed();
+        let net = worth.wrapping_sub(self.prices[job]).cast_signed();
         let is_best = net > self.net;
         Glance {
-            lots: self.lots,
+            prices: self.prices,
             net: either(is_best, net, self.net),
             job: either(is_best, job, self.job),
             runner_up: self.runner_up.max(either(is_best, self.net, net)),

@@ -5,9 +5,8 @@ ghost use Rattle.auction.specs.Standings.{worth_served};
 ghost use Rattle.auction.specs.Tally.{total_worth};
 ghost use Rattle.auction.specs.Calls.{price_answer, holder_answer, standing_answer};
 ghost use Rattle.hall.specs.InBooks.{NotedOf, tally_in};
-ghost use Rattle.hall.specs.Steps.{lot_answer};
 
-use super::{Books, Lot};
+use super::Books;
 use auction::standing::{Counts, Standing};
 use refusals::Refusal;
 
@@ -30,26 +29,22 @@ fn total_worth(standings: &[Standing]) -> u64
 }
 
 impl Books {
-    // What is kept of a job.
-    fn lot(&self, job: usize) -> Result<Lot, Refusal>
-        ensures { result ≡ lot_answer job self.now }
+    pub(crate) fn price(&self, job: usize) -> Result<u64, Refusal>
+        ensures { (m : Meaning) → NotedOf m self.now → result ≡ price_answer job m (Some (tally_in self.now)) }
     {
         if job >= self.noted.jobs {
             return Err(Refusal::NoSuchJob);
         }
-        Ok(self.lots[job])
-    }
-
-    pub(crate) fn price(&self, job: usize) -> Result<u64, Refusal>
-        ensures { (m : Meaning) → NotedOf m self.now → result ≡ price_answer job m (Some (tally_in self.now)) }
-    {
-        self.lot(job).map(|lot| lot.price)
+        Ok(self.prices[job])
     }
 
     pub(crate) fn holder(&self, job: usize) -> Result<Option<usize>, Refusal>
         ensures { (m : Meaning) → NotedOf m self.now → result ≡ holder_answer job m (Some (tally_in self.now)) }
     {
-        self.lot(job).map(|lot| lot.holder)
+        if job >= self.noted.jobs {
+            return Err(Refusal::NoSuchJob);
+        }
+        Ok(self.holders[job])
     }
 
     pub(crate) fn standing(&self, carrier: usize) -> Result<Standing, Refusal>

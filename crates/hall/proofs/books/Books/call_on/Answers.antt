@@ -32,7 +32,7 @@ returns g c =
           (omega arith) c.respond.ensures.answered c.respond.ensures.stood c.respond.ensures.numbered;
       tallied = call_tallied m i c.args.act b c.requires c.respond.result c.respond.new.standing c.respond.new.counts
           (omega arith) c.respond.ensures.answered c.respond.ensures.stood c.respond.ensures.numbered;
-      refused = λ e. same_books _ b refl refl refl refl
+      refused = λ e. same_books _ b refl refl refl refl refl
           (standing_kept m i c.args.act b c.requires c.respond.result c.respond.new.standing c.respond.new.counts
           (omega arith) c.respond.ensures.answered c.respond.ensures.stood c.respond.ensures.numbered e)
           (counts_kept m i c.args.act b c.requires c.respond.result c.respond.new.standing c.respond.new.counts

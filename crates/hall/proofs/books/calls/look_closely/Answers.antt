@@ -5,15 +5,14 @@ use Rattle.std.proofs.lemmas.List.{get_or-take}
 use Rattle.sources.specs.Meaning.{row_of}
 use Rattle.std.specs.Option.{unwrap_or}
 use Rattle.sources.proofs.Reading.{entry_or, row_known, row_within, row_rising, rising_apart, row_length}
-use Rattle.auction.specs.Bids.{fresh, weighed, weighed_at}
-use Rattle.hall.specs.Kept.{unsold, prices_of}
+use Rattle.auction.specs.Bids.{fresh, weighed}
 use Rattle.hall.specs.Seeing.{bid_in}
-use Rattle.hall.proofs.Entries.{weighed_cut, price_in}
+use Rattle.hall.proofs.Entries.{weighed_cut}
 use Rattle.hall.proofs.Seeing.{look_merged, seen_more}
 use Rattle.hall.proofs.books.calls.look_closely.Goals as goal
 
-pub offset_bounds-lots-job : goal.offset_bounds-lots-job
-offset_bounds-lots-job g c =
+pub offset_bounds-prices-job : goal.offset_bounds-prices-job
+offset_bounds-prices-job g c =
     let m = g.S.Source.meaning c.args.source.now in
     let e = (c.unwrap_or-job.ensures ∙ ap (λ o. unwrap_or o (0, 0)) c.entry.ensures ∙ entry_or (g.S.Source.meaning c.args.source.now) c.args.carrier c.loop-place.place) in
     let k : (get_or (row_of m c.args.carrier) c.loop-place.place (0, 0)).0 < m.jobs = All-get_or (λ e. e.0 < m.jobs) (row_of m c.args.carrier) c.loop-place.place (0, 0) (omega arith) (row_known m (g.S.Source.sound c.args.source.now) c.args.carrier) in
@@ -21,8 +20,8 @@ offset_bounds-lots-job g c =
     let n : c.unwrap_or-job.result.0 < 256 = omega (arith, k, j, c.requires.few_jobs) in
     search rules
 
-pub bounds-lots-job : goal.bounds-lots-job
-bounds-lots-job g c =
+pub bounds-prices-job : goal.bounds-prices-job
+bounds-prices-job g c =
     let m = g.S.Source.meaning c.args.source.now in
     let e = (c.unwrap_or-job.ensures ∙ ap (λ o. unwrap_or o (0, 0)) c.entry.ensures ∙ entry_or (g.S.Source.meaning c.args.source.now) c.args.carrier c.loop-place.place) in
     let k = All-get_or (λ e. e.0 < m.jobs) (row_of m c.args.carrier) c.loop-place.place (0, 0) (omega arith) (row_known m (g.S.Source.sound c.args.source.now) c.args.carrier) in
@@ -43,8 +42,7 @@ and-seen-requires-clause-low_price g c =
     let k = All-get_or (λ e. e.0 < m.jobs) (row_of m c.args.carrier) c.loop-place.place (0, 0) (omega arith) (row_known m sound c.args.carrier) in
     let job = c.unwrap_or-job.result.0 in
     let known : c.unwrap_or-job.result.0 < m.jobs = omega (arith, k, ap (λ x. x.0) (c.unwrap_or-job.ensures ∙ ap (λ o. unwrap_or o (0, 0)) c.entry.ensures ∙ entry_or (g.S.Source.meaning c.args.source.now) c.args.carrier c.loop-place.place)) in
-    let price = price_in c.args.lots.now job unsold (omega (arith, known, c.requires.few_jobs)) in
-    omega (arith, price, get_or-take m.jobs (prices_of c.args.lots.now) job 0 known, c.requires.low_prices job)
+    omega (arith, get_or-take m.jobs c.args.prices.now job 0 known, c.requires.low_prices job)
 
 pub and-seen-requires-clause-rises : goal.and-seen-requires-clause-rises
 and-seen-requires-clause-rises g c =
@@ -56,8 +54,8 @@ loop-place-preserved g c =
     let m = g.S.Source.meaning c.args.source.now in
     let sound = g.S.Source.sound c.args.source.now in
     let row = row_of m c.args.carrier in
-    let lots = c.args.lots.now in
-    let ps = take m.jobs (prices_of lots) in
+    let prices = c.args.prices.now in
+    let ps = take m.jobs prices in
     let place = c.loop-place.place in
     let from = c.args.bid.now.looked in
     let s = c.loop-place.seen in
@@ -68,8 +66,7 @@ loop-place-preserved g c =
     let before : ℕ = place - from in
     let next : (c.loop-place.place - c.args.bid.now.looked) + 1 ≡ c.loop-place.place + 1 - c.args.bid.now.looked = omega arith in
     let so_far = bid_in (place - from) s.net s.job s.worth s.runner_up in
-    let price = price_in lots e.0 unsold (omega (arith, known, c.requires.few_jobs)) in
-    let step = c.and-seen.ensures.seen (place - from) ∙ ap (λ p. weighed_at p so_far e) price ∙ weighed_cut m.jobs (prices_of lots) so_far e.0 e.1 known in
+    let step = c.and-seen.ensures.seen (place - from) ∙ weighed_cut m.jobs prices so_far e.0 e.1 known in
     let more = step ∙ seen_more ps row from place (place - from) so_far e (omega arith) refl inside (c.unwrap_or-job.ensures ∙ ap (λ o. unwrap_or o (0, 0)) c.entry.ensures ∙ entry_or (g.S.Source.meaning c.args.source.now) c.args.carrier c.loop-place.place) c.loop-place.invariant.folded in
     record {
       folded = let r = c.and-seen.result in
@@ -84,8 +81,8 @@ returns g c =
     let m = g.S.Source.meaning c.args.source.now in
     let s = c.loop-place.seen in
     let count : c.loop-place.place - c.args.bid.now.looked ≡ c.args.count = omega arith in
-    let seen = subst (λ n. bid_in n s.net s.job s.worth s.runner_up ≡ fold (weighed (take m.jobs (prices_of c.args.lots.now))) fresh (take n (drop c.args.bid.now.looked (row_of m c.args.carrier)))) count c.loop-place.invariant.folded in
-    c.merged.ensures ∙ look_merged c.args.count c.args.count (take m.jobs (prices_of c.args.lots.now)) (row_of m c.args.carrier) c.args.bid.now _ (omega arith) seen
+    let seen = subst (λ n. bid_in n s.net s.job s.worth s.runner_up ≡ fold (weighed (take m.jobs c.args.prices.now)) fresh (take n (drop c.args.bid.now.looked (row_of m c.args.carrier)))) count c.loop-place.invariant.folded in
+    c.merged.ensures ∙ look_merged c.args.count c.args.count (take m.jobs c.args.prices.now) (row_of m c.args.carrier) c.args.bid.now _ (omega arith) seen
 
 pub overflow_add-place-end : goal.overflow_add-place-end
 overflow_add-place-end g c =

@@ -1,7 +1,6 @@
 use Rattle.std.proofs.Common.{◌≡◌, ℕ, ◌-◌, ◌<◌, ◌≤◌, ◌⊎◌, length, get_or, take, drop, fold}
 use Rattle.sources.specs.Meaning.{row_of}
 use Rattle.auction.specs.Bids.{fresh, weighed}
-use Rattle.hall.specs.Kept.{prices_of}
 use Rattle.hall.specs.Seeing.{bid_in}
 use Rattle.hall.proofs.books.calls.look_closely.Given as goal
 
@@ -9,7 +8,7 @@ use Rattle.hall.proofs.books.calls.look_closely.Given as goal
 abbrev pub invariant-loop-place : goal.invariant-loop-place
 invariant-loop-place g l =
     let m = g.S.Source.meaning l.source in
-    let ps = take m.jobs (prices_of l.lots) in
+    let ps = take m.jobs l.prices in
     let row = row_of m l.carrier in
     let s = l.seen in
     record {
