@@ -3,17 +3,17 @@ use Rattle.std.proofs.Common.{◌≡◌, ℕ, zero, suc, ◌+◌, Bool, true, fa
 use Rattle.std.specs.Option.{option_to_list}
 use Rattle.std.specs.List.{AllByRecursion}
 use Rattle.sources.specs.Meaning.{Meaning}
-use Rattle.auction.specs.declared.standing.Act.{Act}
-use Rattle.auction.specs.declared.standing.Act.TheVariants.{Summon, Look, Settle}
-use Rattle.auction.specs.declared.standing.Bid.{Bid}
-use Rattle.auction.specs.declared.standing.InFlight.{InFlight}
-use Rattle.auction.specs.declared.call.Answer.TheVariants.{Settled}
+use Rattle.auction.specs.declared.bidding.Act.{Act}
+use Rattle.auction.specs.declared.bidding.Act.TheVariants.{Summon, Look, Settle}
+use Rattle.auction.specs.declared.bidding.Bid.{Bid}
+use Rattle.auction.specs.declared.bidding.InFlight.{InFlight}
+use Rattle.auction.specs.declared.calls.Answer.TheVariants.{Settled}
 use Rattle.auction.specs.Tally.{Tally}
 use Rattle.auction.specs.Rules.{bid_at, success_of, verdict_from}
 use Rattle.auction.specs.Consistent.{Consistent}
 use Rattle.auction.specs.Runs.{RunState, first_acts, step_by, one_step, many_steps}
 use Rattle.auction.specs.InOrder.{InOrder, Ordered}
-use Rattle.auction.specs.Calls.{told, accepted, answer_to, tally_by, tally_from, answers_from}
+use Rattle.auction.specs.Calls.{as_answer, accepted, answer_to, tally_by, tally_from, answers_from}
 use Rattle.auction.specs.MadeOf.{act_call, calls_of, LeadsTo, Midway}
 use Rattle.auction.proofs.Steps.{summon_taken, look_taken, settle_taken}
 
@@ -34,9 +34,9 @@ module _ (m : Meaning) where
   -- An act whose bid is taken is accepted as a call.
   act_accepted : (act : Act) (i : ℕ) (t : Tally) (b : Bid) → bid_at m i act t ≡ Ok b → is_ok (answer_to m (Some t) (act_call act i)) ≡ true
   unfolding answer_to
-  act_accepted Summon i t b e = ap (λ r. is_ok (told accepted (success_of r))) e
-  act_accepted Look i t b e = ap (λ r. is_ok (told accepted (success_of r))) e
-  act_accepted Settle i t b e = ap (λ r. is_ok (told Settled (verdict_from t r))) e
+  act_accepted Summon i t b e = ap (λ r. is_ok (as_answer accepted (success_of r))) e
+  act_accepted Look i t b e = ap (λ r. is_ok (as_answer accepted (success_of r))) e
+  act_accepted Settle i t b e = ap (λ r. is_ok (as_answer Settled (verdict_from t r))) e
 
   pub record Makes (t : Tally) (n : ℕ) (q : RunState) (x : Act × ℕ) : Type 0 where
     pub taken : is_ok (answer_to m (Some t) (act_call x.0 x.1)) ≡ true

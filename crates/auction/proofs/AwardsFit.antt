@@ -4,12 +4,12 @@ use mathlib.Core.Logic.{∥∥₁_map}
 use borrow.Author.Differences.{down, le_out}
 use Rattle.std.proofs.lemmas.Bool.{cases_eq, both_ways}
 use Rattle.sources.specs.Meaning.{Meaning, Sound, row_of, worth_in}
-use Rattle.auction.specs.declared.standing.Best.{Best}
-use Rattle.auction.specs.declared.standing.Bid.{Bid}
-use Rattle.auction.specs.declared.standing.Held.{Held}
-use Rattle.auction.specs.declared.standing.Standing.{Standing}
-use Rattle.auction.specs.declared.standing.Standing.TheVariants.{Bidding, Served, Out}
-use Rattle.auction.specs.declared.standing.Verdict.TheVariants.{Awarded}
+use Rattle.auction.specs.declared.bidding.Best.{Best}
+use Rattle.auction.specs.declared.bidding.Bid.{Bid}
+use Rattle.auction.specs.declared.bidding.Held.{Held}
+use Rattle.auction.specs.declared.bidding.Standing.{Standing}
+use Rattle.auction.specs.declared.bidding.Standing.TheVariants.{Bidding, Served, Out}
+use Rattle.auction.specs.declared.bidding.Verdict.TheVariants.{Awarded}
 use Rattle.auction.specs.Standings.{BestSound}
 use Rattle.auction.specs.Tally.{Tally, price_at, holder_at, standing_at, is_holder}
 use Rattle.auction.specs.Bids.{offer}

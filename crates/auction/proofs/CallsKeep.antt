@@ -4,16 +4,16 @@ use Rattle.std.specs.Option.{option_map}
 use Rattle.std.proofs.lemmas.Bool.{cond_both}
 use Rattle.refusals.specs.declared.Refusal.{Refusal}
 use Rattle.sources.specs.Meaning.{Meaning, Sound}
-use Rattle.auction.specs.declared.standing.Act.{Act}
-use Rattle.auction.specs.declared.standing.Act.TheVariants.{Summon as Summons, Look as Looks}
-use Rattle.auction.specs.declared.call.Call.{Call}
-use Rattle.auction.specs.declared.call.Call.TheVariants.{Start, Summon, Look, Settle, Run, PriceOf, HolderOf, StandingOf, TotalWorth, AllCounts}
+use Rattle.auction.specs.declared.bidding.Act.{Act}
+use Rattle.auction.specs.declared.bidding.Act.TheVariants.{Summon as Summons, Look as Looks}
+use Rattle.auction.specs.declared.calls.Call.{Call}
+use Rattle.auction.specs.declared.calls.Call.TheVariants.{Start, Summon, Look, Settle, Run, PriceOf, HolderOf, StandingOf, TotalWorth, AllCounts}
 use Rattle.auction.specs.Tally.{Tally}
-use Rattle.auction.specs.Rules.{between, start_answer, start_tally, start_tally_by, opened, called, settled}
+use Rattle.auction.specs.Rules.{between, start_answer, start_tally, start_tally_by, tally_at_start, called, settled}
 use Rattle.auction.specs.Runs.{beginning, ran}
 use Rattle.auction.specs.Calls.{tally_by, tally_from, tally_after}
 use Rattle.auction.proofs.Invariant.{Invariant}
-use Rattle.auction.proofs.InvariantKept.{opened_invariant, call_keeps, settle_keeps}
+use Rattle.auction.proofs.InvariantKept.{at_start_invariant, call_keeps, settle_keeps}
 use Rattle.auction.proofs.Steps.{steps_hold}
 
 -- P of the tally, if there is one.
@@ -26,17 +26,17 @@ module _ (m : Meaning) (P : Tally → Type 0) where
   map_holds f k None h = tt
   map_holds f k (Some t) h = k t h
 
-  start_holds : (step lanes : ℕ) → (start_answer step lanes m ≡ Ok tt → P (opened m.carriers m.jobs step lanes)) → (o : Option Tally) → Holds P o → Holds P (start_tally step lanes m o)
+  start_holds : (step lanes : ℕ) → (start_answer step lanes m ≡ Ok tt → P (tally_at_start m.carriers m.jobs step lanes)) → (o : Option Tally) → Holds P o → Holds P (start_tally step lanes m o)
   start_holds step lanes s o h = go (start_answer step lanes m) refl
     where
-      go : (r : Result (Unit {0}) Refusal) → start_answer step lanes m ≡ r → Holds P (start_tally_by r (opened m.carriers m.jobs step lanes) o)
+      go : (r : Result (Unit {0}) Refusal) → start_answer step lanes m ≡ r → Holds P (start_tally_by r (tally_at_start m.carriers m.jobs step lanes) o)
       go (Ok x) e = s e
       go (Err x) e = h
 
 module _ (m : Meaning) (P : Tally → Type 0) (calls : (t : Tally) (i : ℕ) (act : Act) → P t → P (called m i act t)) (settles : (t : Tally) (i : ℕ) → P t → P (settled m i t)) where
   -- What an accepted start by this call leads to.
   abbrev pub Starts : Call → Type 0
-  Starts c = (step lanes : ℕ) → c ≡ Start step lanes → start_answer step lanes m ≡ Ok tt → P (opened m.carriers m.jobs step lanes)
+  Starts c = (step lanes : ℕ) → c ≡ Start step lanes → start_answer step lanes m ≡ Ok tt → P (tally_at_start m.carriers m.jobs step lanes)
 
   run_holds : (depth budget : ℕ) (t : Tally) → P t → P (ran m depth budget t)
   unfolding ran beginning
@@ -61,7 +61,7 @@ module _ (m : Meaning) (sound : Sound m) where
   calls_keep o [] h = h
   calls_keep o (c ∷ calls) h =
       calls_keep (tally_by m o c) calls
-      (call_holds m (Invariant m) (λ t i act inv. call_keeps m sound t inv i act) (λ t i inv. settle_keeps m sound t inv i) o c (λ step lanes _ ok. opened_invariant m step lanes ok) h)
+      (call_holds m (Invariant m) (λ t i act inv. call_keeps m sound t inv i act) (λ t i inv. settle_keeps m sound t inv i) o c (λ step lanes _ ok. at_start_invariant m step lanes ok) h)
 
   pub invariant_after : (calls : List Call) (t : Tally) → tally_after m calls ≡ Some t → Invariant m t
   invariant_after calls t e = subst (Holds (Invariant m)) e (calls_keep None calls tt)

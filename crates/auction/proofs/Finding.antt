@@ -4,20 +4,20 @@ use Rattle.std.specs.List.{AllByRecursion}
 use Rattle.std.proofs.Math.Seq.{take-append_seam}
 use Rattle.std.proofs.ByRecursion.{All-append, All-weaker}
 use Rattle.std.proofs.lemmas.List.{length-append, length-take, length-take-le, length-drop, map-append, take-append-drop}
-use Rattle.auction.specs.declared.standing.Best.{Best}
-use Rattle.auction.specs.declared.standing.Bid.{Bid}
-use Rattle.auction.specs.Bids.{weighed, looked_on, fresh}
+use Rattle.auction.specs.declared.bidding.Best.{Best}
+use Rattle.auction.specs.declared.bidding.Bid.{Bid}
+use Rattle.auction.specs.Bids.{weighed, looked_on, new_bid}
 use Rattle.auction.specs.Looks.{nets_at, Gathered}
-use Rattle.auction.specs.Found.{Seen, nets_seen, Found}
+use Rattle.auction.specs.Found.{SeenEntry, nets_seen, Found}
 use Rattle.auction.proofs.Weighed.{folded_looked}
 use Rattle.auction.proofs.Gathering.{folded_gathers}
 
 -- ---- the nets of what was seen
 
-abbrev net_of : Seen → Best
+abbrev net_of : SeenEntry → Best
 net_of s = record { net = pos s.entry.1 -ℤ pos s.price; job = s.entry.0; worth = s.entry.1 }
 
-nets_seen-append : (xs ys : List Seen) → nets_seen (xs ++ ys) ≡ nets_seen xs ++ nets_seen ys
+nets_seen-append : (xs ys : List SeenEntry) → nets_seen (xs ++ ys) ≡ nets_seen xs ++ nets_seen ys
 nets_seen-append [] ys = refl
 nets_seen-append (s ∷ xs) ys = go (nets_seen-append xs ys) (eqb s.entry.1 0)
   where
@@ -30,7 +30,7 @@ nets_seen-append (s ∷ xs) ys = go (nets_seen-append xs ys) (eqb s.entry.1 0)
 
 module _ (ps : List ℕ) where
   -- The entry at the price now.
-  abbrev seen_now : ℕ × ℕ → Seen
+  abbrev seen_now : ℕ × ℕ → SeenEntry
   seen_now e = record { entry = e; price = get_or ps e.0 0 }
 
   nets_now : (es : List (ℕ × ℕ)) → nets_seen (map seen_now es) ≡ nets_at ps es
@@ -55,8 +55,8 @@ taken_on xs k n l =
     ap (take (k + length more)) (sym whole) ∙ ap (λ i. take i ((take k xs ++ more) ++ drop n (drop k xs))) (sym long) ∙ take-append_seam (take k xs ++ more) (drop n (drop k xs))
 
 module _ (ps : List ℕ) (row : List (ℕ × ℕ)) where
-  pub fresh_found : Found ps row fresh
-  fresh_found = record { seen = []; within = omega arith; entries = refl; risen = tt; gathered = (refl, refl) }
+  pub new_bid_found : Found ps row new_bid
+  new_bid_found = record { seen = []; within = omega arith; entries = refl; risen = tt; gathered = (refl, refl) }
 
   pub look_found : (lanes : ℕ) (b : Bid) → Found ps row b → Found ps row (looked_on lanes ps row b)
   look_found lanes b f = record {

@@ -6,11 +6,11 @@ use Rattle.std.proofs.lemmas.List.{append-nil}
 use Rattle.std.proofs.ByRecursion.{All-push, All-weaker}
 use Rattle.std.proofs.lemmas.Bool.{cond_both, false≢true}
 use Rattle.refusals.specs.declared.Refusal.{Refusal}
-use Rattle.auction.specs.declared.standing.Best.{Best}
-use Rattle.auction.specs.declared.standing.Bid.{Bid}
-use Rattle.auction.specs.declared.standing.Act.TheVariants.{Look}
-use Rattle.auction.specs.declared.standing.Standing.{Standing}
-use Rattle.auction.specs.declared.standing.Standing.TheVariants.{Bidding}
+use Rattle.auction.specs.declared.bidding.Best.{Best}
+use Rattle.auction.specs.declared.bidding.Bid.{Bid}
+use Rattle.auction.specs.declared.bidding.Act.TheVariants.{Look}
+use Rattle.auction.specs.declared.bidding.Standing.{Standing}
+use Rattle.auction.specs.declared.bidding.Standing.TheVariants.{Bidding}
 use Rattle.auction.specs.Bids.{natural, beats, ranked, weighed, looked_on}
 use Rattle.auction.specs.Rules.{looked_all, bid_after}
 use Rattle.auction.specs.Looks.{net_at, nets_at, largest, Gathered, LooksOn}

@@ -5,16 +5,16 @@ use Rattle.std.specs.Prelude.{flat_map}
 use Rattle.std.proofs.lemmas.Bool.{ltb-true}
 use Rattle.refusals.specs.declared.Refusal.{Refusal}
 use Rattle.sources.specs.Meaning.{Meaning, Sound, row_of}
-use Rattle.auction.specs.declared.standing.Act.{Act}
-use Rattle.auction.specs.declared.standing.Act.TheVariants.{Summon, Look, Settle}
-use Rattle.auction.specs.declared.standing.Bid.{Bid}
-use Rattle.auction.specs.declared.standing.InFlight.{InFlight}
-use Rattle.auction.specs.declared.standing.Verdict.{Verdict}
-use Rattle.auction.specs.declared.standing.Verdict.TheVariants.{Out as GoesOut, Stale, Awarded}
+use Rattle.auction.specs.declared.bidding.Act.{Act}
+use Rattle.auction.specs.declared.bidding.Act.TheVariants.{Summon, Look, Settle}
+use Rattle.auction.specs.declared.bidding.Bid.{Bid}
+use Rattle.auction.specs.declared.bidding.InFlight.{InFlight}
+use Rattle.auction.specs.declared.bidding.Verdict.{Verdict}
+use Rattle.auction.specs.declared.bidding.Verdict.TheVariants.{Out as GoesOut, Stale, Awarded}
 use Rattle.auction.specs.Standings.{is_bidding, in_flight, looks_for}
 use Rattle.auction.specs.Tally.{Tally, standing_at}
 use Rattle.auction.specs.Bids.{best_worth}
-use Rattle.auction.specs.Rules.{bid_at, taken, counted, bids, called, carried_out, verdict_in, verdict_from, settle_answer, ended, settled}
+use Rattle.auction.specs.Rules.{bid_at, if_accepted, counted, bids, called, carried_out, verdict_in, verdict_from, settle_answer, ended, settled}
 use Rattle.auction.specs.Runs.{RunState, first_acts, step_by, one_step, many_steps}
 use Rattle.auction.specs.InOrder.{times_in, Ordered}
 use Rattle.auction.specs.MadeOf.{round, Midway, InRounds}
@@ -50,7 +50,7 @@ module _ (m : Meaning) (depth w : ℕ) (wide : depth ≤ w) where
 call_lanes : (m : Meaning) (t : Tally) (i : ℕ) (act : Act) → (called m i act t).lanes ≡ t.lanes
 call_lanes m t i act = go (bid_at m i act t)
   where
-    go : (r : Result Bid Refusal) → (taken r (bids act i) t).lanes ≡ t.lanes
+    go : (r : Result Bid Refusal) → (if_accepted r (bids act i) t).lanes ≡ t.lanes
     go (Ok b) = refl
     go (Err e) = refl
 
@@ -62,7 +62,7 @@ settle_lanes m t i = go (bid_at m i Settle t)
     out w Stale = refl
     out w (Awarded a) = refl
 
-    go : (r : Result Bid Refusal) → (taken r (ended i) t).lanes ≡ t.lanes
+    go : (r : Result Bid Refusal) → (if_accepted r (ended i) t).lanes ≡ t.lanes
     go (Ok b) = out (best_worth b.best) (verdict_in t b)
     go (Err e) = refl
 
@@ -75,7 +75,7 @@ module _ (m : Meaning) (sound : Sound m) where
   call_awards : (t : Tally) (k : ℕ) (act : Act) → (called m k act t).counts.awards ≡ t.counts.awards
   call_awards t k act = go (bid_at m k act t)
     where
-      go : (r : Result Bid Refusal) → (taken r (bids act k) t).counts.awards ≡ t.counts.awards
+      go : (r : Result Bid Refusal) → (if_accepted r (bids act k) t).counts.awards ≡ t.counts.awards
       go (Ok b) = counted_awards act t.counts
       go (Err e) = refl
 
@@ -185,7 +185,7 @@ module _ (m : Meaning) (sound : Sound m) where
         counted_stales Look = refl
         counted_stales Settle = refl
 
-        go : (r : Result Bid Refusal) → (taken r (bids act k) t).counts.stales ≡ t.counts.stales
+        go : (r : Result Bid Refusal) → (if_accepted r (bids act k) t).counts.stales ≡ t.counts.stales
         go (Ok b) = counted_stales act
         go (Err e) = refl
 
@@ -198,7 +198,7 @@ module _ (m : Meaning) (sound : Sound m) where
           out w Stale s = absurd s
           out w (Awarded a) s = refl
 
-          go : (r : Result Bid Refusal) → ((v : Verdict) → verdict_from t r ≡ Ok v → Sequential t (row_of m i) v) → (taken r (ended i) t).counts.stales ≡ t.counts.stales
+          go : (r : Result Bid Refusal) → ((v : Verdict) → verdict_from t r ≡ Ok v → Sequential t (row_of m i) v) → (if_accepted r (ended i) t).counts.stales ≡ t.counts.stales
           go (Ok b) s = out (best_worth b.best) (verdict_in t b) (s (verdict_in t b) refl)
           go (Err e) s = refl
 

@@ -8,18 +8,18 @@ use Rattle.std.proofs.ByRecursion.{All-from_get_or, sum_by_le}
 use Rattle.std.proofs.lemmas.List.Sums.{count_by-le-length}
 use Rattle.refusals.specs.declared.Refusal.{Refusal}
 use Rattle.sources.specs.Meaning.{Meaning, Sound, row_of}
-use Rattle.auction.specs.declared.standing.Best.{Best}
-use Rattle.auction.specs.declared.standing.Bid.{Bid}
-use Rattle.auction.specs.declared.standing.Act.{Act}
-use Rattle.auction.specs.declared.standing.Act.TheVariants.{Summon, Look, Settle}
-use Rattle.auction.specs.declared.standing.Standing.{Standing}
-use Rattle.auction.specs.declared.standing.Standing.TheVariants.{Waiting, Bidding, Out}
-use Rattle.auction.specs.declared.standing.Verdict.{Verdict}
-use Rattle.auction.specs.declared.standing.Verdict.TheVariants.{Out as GoesOut, Stale}
+use Rattle.auction.specs.declared.bidding.Best.{Best}
+use Rattle.auction.specs.declared.bidding.Bid.{Bid}
+use Rattle.auction.specs.declared.bidding.Act.{Act}
+use Rattle.auction.specs.declared.bidding.Act.TheVariants.{Summon, Look, Settle}
+use Rattle.auction.specs.declared.bidding.Standing.{Standing}
+use Rattle.auction.specs.declared.bidding.Standing.TheVariants.{Waiting, Bidding, Out}
+use Rattle.auction.specs.declared.bidding.Verdict.{Verdict}
+use Rattle.auction.specs.declared.bidding.Verdict.TheVariants.{Out as GoesOut, Stale}
 use Rattle.auction.specs.Standings.{is_bidding, is_served, is_out, holds_job, BidSound, StandingSound, best_risen, is_risen}
 use Rattle.auction.specs.Tally.{Tally, price_at, standing_at, is_holder}
-use Rattle.auction.specs.Bids.{fresh, looked_on, offer, judged_best, best_worth}
-use Rattle.auction.specs.Rules.{start_answer, opened, looked_all, bid_after, bid_at, taken, counted, bids, called, counted_out, counted_stale, carried_out, ended, settled}
+use Rattle.auction.specs.Bids.{new_bid, looked_on, offer, judged_best, best_worth}
+use Rattle.auction.specs.Rules.{start_answer, tally_at_start, looked_all, bid_after, bid_at, if_accepted, counted, bids, called, counted_out, counted_stale, carried_out, ended, settled}
 use Rattle.auction.specs.Consistent.{Limits, Consistent}
 use Rattle.sources.proofs.Reading.{row_known, row_within}
 use Rattle.auction.proofs.Counted.{one, none_counted}
@@ -51,9 +51,9 @@ limits_from_ok m step lanes e = record {
   few_lanes = grind (arith, nat_tests);
 }
 
-pub opened_consistent : (carriers jobs ceiling step lanes : ℕ) → Limits carriers jobs ceiling step lanes → Consistent carriers jobs ceiling (opened carriers jobs step lanes)
-unfolding opened
-opened_consistent carriers jobs ceiling step lanes limits = record {
+pub at_start_consistent : (carriers jobs ceiling step lanes : ℕ) → Limits carriers jobs ceiling step lanes → Consistent carriers jobs ceiling (tally_at_start carriers jobs step lanes)
+unfolding tally_at_start
+at_start_consistent carriers jobs ceiling step lanes limits = record {
   limits = limits;
   prices_sized = length-replicate jobs 0;
   holders_sized = length-replicate jobs None;
@@ -73,13 +73,13 @@ opened_consistent carriers jobs ceiling step lanes limits = record {
 module _ (m : Meaning) (sound : Sound m) (t : Tally) (con : Consistent m.carriers m.jobs m.ceiling t) (i : ℕ) where
   -- A refused call leaves the tally as it is.
   abbrev Keeps : (Bid → Tally → Tally) → Result Bid Refusal → Type 0
-  Keeps f r = Consistent m.carriers m.jobs m.ceiling (taken r f t)
+  Keeps f r = Consistent m.carriers m.jobs m.ceiling (if_accepted r f t)
 
   call_from : (act : Act) → i < m.carriers → (s : Standing) → standing_at t i ≡ s → Keeps (bids act i) (bid_after t.lanes t.prices (row_of m i) s act)
   call_from Summon l Waiting e =
       let a : one (is_bidding (standing_at t i)) ≡ 0 = ap (λ s. one (is_bidding s)) e in
       let d : one (is_out (standing_at t i)) ≡ 0 = ap (λ s. one (is_out s)) e in
-      restood m.carriers m.jobs m.ceiling t con i l (Bidding fresh) (counted Summon t.counts) (ap is_served e) refl refl refl
+      restood m.carriers m.jobs m.ceiling t con i l (Bidding new_bid) (counted Summon t.counts) (ap is_served e) refl refl refl
       (omega (arith, a)) (omega (arith, d)) (omega arith)
   call_from Look l (Bidding b) e =
       cond_both {A = Result Bid Refusal} (looked_all (row_of m i) b) _ _ (Keeps (bids Look i)) (λ _. con)
@@ -137,16 +137,16 @@ module _ (carriers jobs ceiling : ℕ) (t : Tally) (con : Consistent carriers jo
 -- What holds before holds after a settle, if it holds after each bid that ends.
 module _ (m : Meaning) (t : Tally) (i : ℕ) (P : Tally → Type 0) (h : P t)
     (ends : i < m.carriers → (b : Bid) → standing_at t i ≡ Bidding b → length (row_of m i) ≤ b.looked → P (ended i b t)) where
-  settle_from : i < m.carriers → (s : Standing) → standing_at t i ≡ s → P (taken (bid_after t.lanes t.prices (row_of m i) s Settle) (ended i) t)
+  settle_from : i < m.carriers → (s : Standing) → standing_at t i ≡ s → P (if_accepted (bid_after t.lanes t.prices (row_of m i) s Settle) (ended i) t)
   settle_from l (Bidding b) e =
-      cond_both {A = Result Bid Refusal} (looked_all (row_of m i) b) _ _ (λ r. P (taken r (ended i) t))
+      cond_both {A = Result Bid Refusal} (looked_all (row_of m i) b) _ _ (λ r. P (if_accepted r (ended i) t))
       (λ q. ends l b e (leb-true (length (row_of m i)) b.looked q)) (λ _. h)
   settle_from l _ e = h
 
   pub settle_takes : P (settled m i t)
   unfolding bid_at
   settle_takes =
-      cond_both {A = Result Bid Refusal} (ltb i m.carriers) _ _ (λ r. P (taken r (ended i) t)) (λ q. settle_from (ltb-true i m.carriers q) (standing_at t i) refl) (λ _. h)
+      cond_both {A = Result Bid Refusal} (ltb i m.carriers) _ _ (λ r. P (if_accepted r (ended i) t)) (λ q. settle_from (ltb-true i m.carriers q) (standing_at t i) refl) (λ _. h)
 
 pub settle_consistent : (m : Meaning) (t : Tally) → Consistent m.carriers m.jobs m.ceiling t → (i : ℕ) → Consistent m.carriers m.jobs m.ceiling (settled m i t)
 settle_consistent m t con i =

@@ -10,14 +10,14 @@ use Rattle.std.proofs.lemmas.List.{length-map, length-take, get_or-map, get_or-t
 use Rattle.std.proofs.lemmas.List.Sums.{sum_by-cons, count_by-le-length}
 use Rattle.sources.specs.Meaning.{Meaning, Sound, row_of, worth_in, worth_of}
 use Rattle.sources.specs.Layers.{scaled, revalued_row, times_of}
-use Rattle.auction.specs.declared.standing.Award.{Award}
-use Rattle.auction.specs.declared.standing.Best.{Best}
-use Rattle.auction.specs.declared.standing.Bid.{Bid}
-use Rattle.auction.specs.declared.standing.Verdict.{Verdict}
-use Rattle.auction.specs.declared.standing.Verdict.TheVariants.{Out as GoesOut, Stale, Awarded}
-use Rattle.auction.specs.declared.standing.Held.{Held}
-use Rattle.auction.specs.declared.standing.Standing.{Standing}
-use Rattle.auction.specs.declared.standing.Standing.TheVariants.{Bidding, Served, Out}
+use Rattle.auction.specs.declared.bidding.Award.{Award}
+use Rattle.auction.specs.declared.bidding.Best.{Best}
+use Rattle.auction.specs.declared.bidding.Bid.{Bid}
+use Rattle.auction.specs.declared.bidding.Verdict.{Verdict}
+use Rattle.auction.specs.declared.bidding.Verdict.TheVariants.{Out as GoesOut, Stale, Awarded}
+use Rattle.auction.specs.declared.bidding.Held.{Held}
+use Rattle.auction.specs.declared.bidding.Standing.{Standing}
+use Rattle.auction.specs.declared.bidding.Standing.TheVariants.{Bidding, Served, Out}
 use Rattle.auction.specs.Standings.{is_bidding, is_served, ServedOrOut, job_served, worth_served, BestSound, BidSound, StandingSound}
 use Rattle.auction.specs.Tally.{Tally, price_at, holder_at, standing_at}
 use Rattle.auction.specs.Bids.{natural, offer, judged_best}

@@ -4,8 +4,8 @@ use borrow.Author.Differences.{up, ints}
 use Rattle.std.specs.List.{AllByRecursion}
 use Rattle.std.proofs.ByRecursion.{All-take, All-drop}
 use Rattle.std.proofs.lemmas.Bool.{cond_both}
-use Rattle.auction.specs.declared.standing.Best.{Best}
-use Rattle.auction.specs.declared.standing.Bid.{Bid}
+use Rattle.auction.specs.declared.bidding.Best.{Best}
+use Rattle.auction.specs.declared.bidding.Bid.{Bid}
 use Rattle.auction.specs.Bids.{natural, beats, ranked, weighed, looked_on}
 use Rattle.auction.specs.Looks.{net_at}
 use Rattle.auction.specs.Standings.{BestSound, BidSound, best_risen}

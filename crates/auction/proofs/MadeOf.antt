@@ -6,10 +6,10 @@ use mathlib.Core.Logic.{∥∥₁_elim}
 use Rattle.sources.specs.Meaning.{Meaning, Sound}
 use Rattle.refusals.specs.declared.Refusal.{Refusal}
 use Rattle.refusals.specs.declared.Refusal.TheVariants.{DepthOutside}
-use Rattle.auction.specs.declared.standing.Act.{Act}
-use Rattle.auction.specs.declared.standing.Act.TheVariants.{Summon, Look}
-use Rattle.auction.specs.declared.standing.Report.{Report}
-use Rattle.auction.specs.declared.standing.InFlight.{InFlight}
+use Rattle.auction.specs.declared.bidding.Act.{Act}
+use Rattle.auction.specs.declared.bidding.Act.TheVariants.{Summon, Look}
+use Rattle.auction.specs.declared.bidding.Report.{Report}
+use Rattle.auction.specs.declared.bidding.InFlight.{InFlight}
 use Rattle.auction.specs.Standings.{is_bidding}
 use Rattle.auction.specs.Tally.{Tally, standing_at}
 use Rattle.auction.specs.Rules.{between}

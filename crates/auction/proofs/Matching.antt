@@ -2,9 +2,9 @@
 use Rattle.std.proofs.Common.{◌≡◌, ℕ, ◌<◌, Bool, true, false, List, length, get_or, Some, None, count_by, Option, sym, refl, ap, ◌∙◌, ⊎_elim, arith}
 use Rattle.std.proofs.lemmas.Bool.{cases_lt, both_ways, eqb-true, eqb-false, eq-eqb, ne_eqb}
 use Rattle.std.proofs.lemmas.List.{get_or-set_same, get_or-set_other, length-set, get_or_past}
-use Rattle.auction.specs.declared.standing.Held.{Held}
-use Rattle.auction.specs.declared.standing.Standing.{Standing}
-use Rattle.auction.specs.declared.standing.Standing.TheVariants.{Waiting, Served, Out}
+use Rattle.auction.specs.declared.bidding.Held.{Held}
+use Rattle.auction.specs.declared.bidding.Standing.{Standing}
+use Rattle.auction.specs.declared.bidding.Standing.TheVariants.{Waiting, Served, Out}
 use Rattle.auction.specs.Standings.{is_served, holds_job}
 use Rattle.auction.specs.Tally.{Tally, holder_at, standing_at, is_holder}
 use Rattle.auction.specs.Rules.{freed}

@@ -3,7 +3,7 @@ use Rattle.std.proofs.Common.{◌≡◌, ℕ, ◌+◌, ◌<◌, ◌≤◌, true,
 use lib.Signed.{lt_z, le_z}
 use borrow.Author.Differences.{up, down, ints, lt-true, lt-false, le-true, le-false, true_is_lt, false_is_lt}
 use Rattle.std.proofs.lemmas.Bool.{cases_Bool, leb-true, ltb-true, ltb-false, or_cases, or_parts, and_parts, and_cases}
-use Rattle.auction.specs.declared.standing.Best.{Best}
+use Rattle.auction.specs.declared.bidding.Best.{Best}
 use Rattle.auction.specs.Bids.{natural, beats, offer}
 use Rattle.auction.specs.Standings.{best_risen}
 

@@ -9,9 +9,9 @@ use native.Mathlib.Nat.{ℕ_set}
 use lib.Dec.{T_prop}
 use lib.Signed.{le_z}
 use Rattle.sources.specs.Meaning.{Meaning, row_of, worth_in}
-use Rattle.auction.specs.declared.standing.Best.{Best}
-use Rattle.auction.specs.declared.standing.Standing.{Standing}
-use Rattle.auction.specs.declared.standing.Standing.TheVariants.{Bidding, Served, Out}
+use Rattle.auction.specs.declared.bidding.Best.{Best}
+use Rattle.auction.specs.declared.bidding.Standing.{Standing}
+use Rattle.auction.specs.declared.bidding.Standing.TheVariants.{Bidding, Served, Out}
 use Rattle.auction.specs.Standings.{is_bidding, is_out, holds_job, BidSound, StandingSound}
 use Rattle.auction.specs.Tally.{Tally, price_at, holder_at, standing_at, is_holder}
 use Rattle.auction.specs.Consistent.{Limits, Consistent}

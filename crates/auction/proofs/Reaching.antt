@@ -3,10 +3,10 @@ use Rattle.std.proofs.Common.{◌≡◌, List, [], ◌∷◌, ◌++◌, None, Op
 use Rattle.std.proofs.lemmas.List.Sums.{fold-append}
 use mathlib.Core.Logic.{∥∥₁_elim, ∥∥₁_map}
 use Rattle.sources.specs.Meaning.{Meaning, Sound}
-use Rattle.auction.specs.declared.call.Call.{Call}
+use Rattle.auction.specs.declared.calls.Call.{Call}
 use Rattle.auction.specs.Tally.{Tally}
 use Rattle.auction.specs.Calls.{tally_by, tally_from}
-use Rattle.auction.specs.Reached.{Reached, Lawful}
+use Rattle.auction.specs.Reached.{Reached, LawsHold}
 use Rattle.auction.proofs.Props.{invariant_prop}
 use Rattle.auction.proofs.CallsKeep.{invariant_after}
 use Rattle.auction.proofs.LawsHold.{lawful_laws}
@@ -24,5 +24,5 @@ pub reached_more : (m : Meaning) (o p : Option Tally) (c : Call) → Reached m o
 unfolding tally_from
 reached_more m o p c h e = subst (Reached m) (sym e) (reached_from m o (c ∷ []) h)
 
-pub reached_laws : (m : Meaning) → Sound m → (o : Option Tally) → Reached m o → Lawful m o
+pub reached_laws : (m : Meaning) → Sound m → (o : Option Tally) → Reached m o → LawsHold m o
 reached_laws m s o h t e = lawful_laws m s t (∥∥₁_elim h (invariant_prop m t) (λ w. invariant_after m s w.0 t (w.1 ∙ e)))

@@ -8,21 +8,21 @@ use Rattle.std.proofs.lemmas.Bool.{both_ways, cond_both, ltb-true, leb-true, or_
 use Rattle.std.proofs.lemmas.List.{take_all}
 use Rattle.refusals.specs.declared.Refusal.{Refusal}
 use Rattle.sources.specs.Meaning.{Meaning, Sound, row_of}
-use Rattle.auction.specs.declared.standing.Act.{Act}
-use Rattle.auction.specs.declared.standing.Act.TheVariants.{Summon, Look, Settle}
-use Rattle.auction.specs.declared.standing.Best.{Best}
-use Rattle.auction.specs.declared.standing.Bid.{Bid}
-use Rattle.auction.specs.declared.standing.Counts.{Counts}
-use Rattle.auction.specs.declared.standing.Standing.{Standing}
-use Rattle.auction.specs.declared.standing.Standing.TheVariants.{Waiting, Bidding, Out}
-use Rattle.auction.specs.declared.standing.Verdict.{Verdict}
-use Rattle.auction.specs.declared.standing.Verdict.TheVariants.{Out as GoesOut, Stale, Awarded}
-use Rattle.auction.specs.declared.call.Call.{Call}
+use Rattle.auction.specs.declared.bidding.Act.{Act}
+use Rattle.auction.specs.declared.bidding.Act.TheVariants.{Summon, Look, Settle}
+use Rattle.auction.specs.declared.bidding.Best.{Best}
+use Rattle.auction.specs.declared.bidding.Bid.{Bid}
+use Rattle.auction.specs.declared.bidding.Counts.{Counts}
+use Rattle.auction.specs.declared.bidding.Standing.{Standing}
+use Rattle.auction.specs.declared.bidding.Standing.TheVariants.{Waiting, Bidding, Out}
+use Rattle.auction.specs.declared.bidding.Verdict.{Verdict}
+use Rattle.auction.specs.declared.bidding.Verdict.TheVariants.{Out as GoesOut, Stale, Awarded}
+use Rattle.auction.specs.declared.calls.Call.{Call}
 use Rattle.auction.specs.Standings.{is_bidding, BidSound, StandingSound}
 use Rattle.auction.specs.Tally.{Tally, price_at, standing_at}
 use Rattle.auction.specs.Bids.{natural, beats, offer, judged_best, best_worth, looked_on}
 use Rattle.auction.specs.Looks.{net_at, nets_at, Gathered, BestOf}
-use Rattle.auction.specs.Rules.{looked_all, bid_after, bid_at, taken, stands, counted, counted_out, counted_stale, bids, called, carried_out, verdict_in, verdict_from, settle_answer, settled}
+use Rattle.auction.specs.Rules.{looked_all, bid_after, bid_at, if_accepted, with_standing, counted, counted_out, counted_stale, bids, called, carried_out, verdict_in, verdict_from, settle_answer, settled}
 use Rattle.auction.specs.Calls.{tally_by, tally_from, is_start, has_start}
 use Rattle.auction.specs.Sequential.{Sequential, SettlesAlone}
 use Rattle.auction.proofs.Nets.{natural-up, sides, net_is, beats-false}
@@ -142,9 +142,9 @@ module _ (m : Meaning) (sound : Sound m) (n i : ℕ) where
     pub fewest : n ≤ t.counts.awards
     pub seen : t.counts.awards ≡ n → SeenAt m i t.prices (standing_at t i)
 
-  stands-steady : (t : Tally) → Invariant m t → Steady t → (k : ℕ) → k < m.carriers → (s : Standing) (c : Counts) → c.awards ≡ t.counts.awards →
-      (k ≡ i → t.counts.awards ≡ n → SeenAt m k t.prices s) → Steady (stands k s c t)
-  stands-steady t inv f k l s c same new = record {
+  with_standing-steady : (t : Tally) → Invariant m t → Steady t → (k : ℕ) → k < m.carriers → (s : Standing) (c : Counts) → c.awards ≡ t.counts.awards →
+      (k ≡ i → t.counts.awards ≡ n → SeenAt m k t.prices s) → Steady (with_standing k s c t)
+  with_standing-steady t inv f k l s c same new = record {
     fewest = omega (arith, same, f.fewest);
     seen = λ e. let now = sym same ∙ e in
         each_stands (λ a q. a ≡ i → SeenAt m a t.prices q) t k s c (let z = inv.consistent.standings_sized in omega arith) (λ q. new q now) i (λ _. f.seen now) refl;
@@ -166,19 +166,19 @@ module _ (m : Meaning) (sound : Sound m) (n i : ℕ) where
     bid_sees Settle (Bidding b) e = cond_both {A = Result Bid Refusal} (looked_all (row_of m k) b) _ _ SeenBy (λ _. seen_here b e) (λ _. tt)
     bid_sees _ _ e = tt
 
-    call_from : (act : Act) (r : Result Bid Refusal) → SeenBy r → Steady (taken r (bids act k) t)
-    call_from act (Ok b) new = stands-steady t inv f k l (Bidding b) (counted act t.counts) (counted_awards act t.counts) new
+    call_from : (act : Act) (r : Result Bid Refusal) → SeenBy r → Steady (if_accepted r (bids act k) t)
+    call_from act (Ok b) new = with_standing-steady t inv f k l (Bidding b) (counted act t.counts) (counted_awards act t.counts) new
     call_from act (Err e) new = f
 
     ended-steady : (w : ℕ) (v : Verdict) → Steady (carried_out k w v t)
-    ended-steady w GoesOut = stands-steady t inv f k l Out (counted_out t.counts) refl (λ _ _. tt)
-    ended-steady w Stale = stands-steady t inv f k l Waiting (counted_stale t.counts) refl (λ _ _. tt)
+    ended-steady w GoesOut = with_standing-steady t inv f k l Out (counted_out t.counts) refl (λ _ _. tt)
+    ended-steady w Stale = with_standing-steady t inv f k l Waiting (counted_stale t.counts) refl (λ _ _. tt)
     ended-steady w (Awarded a) = record { fewest = omega (arith, f.fewest); seen = λ e. absurd (omega (arith, f.fewest, e)) }
 
   pub call_steady : (t : Tally) → Invariant m t → Steady t → (k : ℕ) (act : Act) → Steady (called m k act t)
   unfolding bid_at
   call_steady t inv f k act =
-      cond_both {A = Result Bid Refusal} (ltb k m.carriers) _ _ (λ r. Steady (taken r (bids act k) t))
+      cond_both {A = Result Bid Refusal} (ltb k m.carriers) _ _ (λ r. Steady (if_accepted r (bids act k) t))
       (λ q. let l = ltb-true k m.carriers q in call_from t inv f k l act _ (bid_sees t inv f k l act (standing_at t k) refl)) (λ _. f)
 
   settle_steady : (t : Tally) → Invariant m t → Steady t → (k : ℕ) → Steady (settled m k t)

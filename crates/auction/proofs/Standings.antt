@@ -2,19 +2,19 @@
 use Rattle.std.proofs.Common.{◌≡◌, ℕ, ◌+◌, ◌-◌, ◌*◌, ◌<◌, ◌≤◌, false, length, get_or, set, count_by, sym, ◌∙◌, subst, ⊎_elim, arith}
 use Rattle.std.proofs.lemmas.Bool.{cases_eq}
 use Rattle.std.proofs.lemmas.List.{get_or-set_same, get_or-set_other, length-set}
-use Rattle.auction.specs.declared.standing.Counts.{Counts}
-use Rattle.auction.specs.declared.standing.Standing.{Standing}
-use Rattle.auction.specs.declared.standing.Standing.TheVariants.{Out}
+use Rattle.auction.specs.declared.bidding.Counts.{Counts}
+use Rattle.auction.specs.declared.bidding.Standing.{Standing}
+use Rattle.auction.specs.declared.bidding.Standing.TheVariants.{Out}
 use Rattle.auction.specs.Standings.{is_bidding, is_served, is_out, holds_job, StandingSound, is_risen}
 use Rattle.auction.specs.Tally.{Tally, holder_at, standing_at, is_holder}
-use Rattle.auction.specs.Rules.{stands}
+use Rattle.auction.specs.Rules.{with_standing}
 use Rattle.auction.specs.Consistent.{Consistent}
 use Rattle.auction.proofs.Counted.{one, count_set}
 use Rattle.auction.proofs.Matching.{holds_none}
 
 -- What holds of the standing at each place, and of the new one, holds of each after.
 pub each_stands : (P : ℕ → Standing → Type 0) (t : Tally) (i : ℕ) (s : Standing) (n : Counts) → i < length t.standings → P i s →
-    (k : ℕ) → P k (standing_at t k) → P k (standing_at (stands i s n t) k)
+    (k : ℕ) → P k (standing_at t k) → P k (standing_at (with_standing i s n t) k)
 each_stands P t i s n l h k old =
     ⊎_elim (λ e. subst (λ a. P a (get_or (set t.standings i s) a Out)) (sym e) (subst (P i) (sym (get_or-set_same t.standings i s Out l)) h))
     (λ ne. subst (P k) (sym (get_or-set_other t.standings i k s Out ne)) old) (cases_eq k i)
@@ -28,7 +28,7 @@ module _ (carriers jobs ceiling : ℕ) (t : Tally) (con : Consistent carriers jo
   within : i < length t.standings
   within = let e = con.standings_sized in omega arith
 
-  pub restood : Consistent carriers jobs ceiling (stands i s n t)
+  pub restood : Consistent carriers jobs ceiling (with_standing i s n t)
   restood = record {
     limits = con.limits;
     prices_sized = con.prices_sized;

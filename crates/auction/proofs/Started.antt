@@ -4,10 +4,10 @@ use Rattle.std.specs.Option.{option_map}
 use Rattle.std.proofs.Math.Bool.{or-false, or-true, or_assoc}
 use Rattle.sources.specs.Meaning.{Meaning}
 use Rattle.refusals.specs.declared.Refusal.{Refusal}
-use Rattle.auction.specs.declared.call.Call.{Call}
-use Rattle.auction.specs.declared.call.Call.TheVariants.{Start, Summon, Look, Settle, Run, PriceOf, HolderOf, StandingOf, TotalWorth, AllCounts}
+use Rattle.auction.specs.declared.calls.Call.{Call}
+use Rattle.auction.specs.declared.calls.Call.TheVariants.{Start, Summon, Look, Settle, Run, PriceOf, HolderOf, StandingOf, TotalWorth, AllCounts}
 use Rattle.auction.specs.Tally.{Tally}
-use Rattle.auction.specs.Rules.{start_answer, start_tally_by, opened}
+use Rattle.auction.specs.Rules.{start_answer, start_tally_by, tally_at_start}
 use Rattle.auction.specs.Calls.{tally_by, tally_from, is_start, has_start}
 
 start_some : (r : Result (Unit {0}) Refusal) (new : Tally) (o : Option Tally) → is_some (start_tally_by r new o) ≡ (is_some o || is_ok r)
@@ -20,7 +20,7 @@ map_some f (Some t) = refl
 
 call_some : (m : Meaning) (o : Option Tally) (c : Call) → is_some (tally_by m o c) ≡ (is_some o || is_start m c)
 unfolding tally_by
-call_some m o (Start step lanes) = start_some (start_answer step lanes m) (opened m.carriers m.jobs step lanes) o
+call_some m o (Start step lanes) = start_some (start_answer step lanes m) (tally_at_start m.carriers m.jobs step lanes) o
 call_some m o (Summon i) = map_some _ o
 call_some m o (Look i) = map_some _ o
 call_some m o (Settle i) = map_some _ o

@@ -9,22 +9,22 @@ use Rattle.std.proofs.lemmas.List.{append-nil}
 use Rattle.std.proofs.lemmas.List.Sums.{sum_by-cons}
 use Rattle.sources.specs.Meaning.{Meaning, Sound, row_of}
 use Rattle.refusals.specs.declared.Refusal.{Refusal}
-use Rattle.auction.specs.declared.standing.Best.{Best}
-use Rattle.auction.specs.declared.standing.Bid.{Bid}
-use Rattle.auction.specs.declared.standing.Counts.{Counts}
-use Rattle.auction.specs.declared.standing.Act.{Act}
-use Rattle.auction.specs.declared.standing.Act.TheVariants.{Summon, Look, Settle}
-use Rattle.auction.specs.declared.standing.InFlight.{InFlight}
-use Rattle.auction.specs.declared.standing.Standing.{Standing}
-use Rattle.auction.specs.declared.standing.Standing.TheVariants.{Waiting, Bidding, Served, Out}
-use Rattle.auction.specs.declared.standing.Verdict.{Verdict}
-use Rattle.auction.specs.declared.standing.Verdict.TheVariants.{Out as GoesOut, Stale, Awarded}
-use Rattle.auction.specs.declared.standing.Ending.{Ending}
-use Rattle.auction.specs.declared.standing.Ending.TheVariants.{Done, Spent}
+use Rattle.auction.specs.declared.bidding.Best.{Best}
+use Rattle.auction.specs.declared.bidding.Bid.{Bid}
+use Rattle.auction.specs.declared.bidding.Counts.{Counts}
+use Rattle.auction.specs.declared.bidding.Act.{Act}
+use Rattle.auction.specs.declared.bidding.Act.TheVariants.{Summon, Look, Settle}
+use Rattle.auction.specs.declared.bidding.InFlight.{InFlight}
+use Rattle.auction.specs.declared.bidding.Standing.{Standing}
+use Rattle.auction.specs.declared.bidding.Standing.TheVariants.{Waiting, Bidding, Served, Out}
+use Rattle.auction.specs.declared.bidding.Verdict.{Verdict}
+use Rattle.auction.specs.declared.bidding.Verdict.TheVariants.{Out as GoesOut, Stale, Awarded}
+use Rattle.auction.specs.declared.bidding.Ending.{Ending}
+use Rattle.auction.specs.declared.bidding.Ending.TheVariants.{Done, Spent}
 use Rattle.auction.specs.Standings.{is_waiting, is_bidding, is_served, if_waiting, in_flight, looks_for, if_bidding}
 use Rattle.auction.specs.Tally.{Tally, holder_at, standing_at}
-use Rattle.auction.specs.Bids.{fresh, looked_on, offer, judged_best, best_worth}
-use Rattle.auction.specs.Rules.{looked_all, bid_after, bid_at, taken, counted, bids, called, freed, carried_out, verdict_in, verdict_from, settle_answer, ended, settled}
+use Rattle.auction.specs.Bids.{new_bid, looked_on, offer, judged_best, best_worth}
+use Rattle.auction.specs.Rules.{looked_all, bid_after, bid_at, if_accepted, counted, bids, called, freed, carried_out, verdict_in, verdict_from, settle_answer, ended, settled}
 use Rattle.auction.specs.Consistent.{Consistent}
 use Rattle.auction.specs.Runs.{RunState, gathered, beginning, waits_after, joins_line, first_acts, step_by, one_step, many_steps, ending_of, run_report, Reports}
 use Rattle.auction.specs.InOrder.{times_in, Due, InOrder, Ordered, Grown}
@@ -62,12 +62,12 @@ module _ (m : Meaning) (P : Tally → Type 0) (calls : (t : Tally) (i : ℕ) (ac
 same_grown : (n : Counts) → Grown n n
 same_grown n = record { summonses_grow = omega arith; awards_grow = omega arith; stales_grow = omega arith; outs_grow = omega arith }
 
-taken_grows : (f : Bid → Tally → Tally) (n : Counts) (t : Tally) → ((b : Bid) → Grown n (f b t).counts) → Grown n t.counts → (r : Result Bid Refusal) → Grown n (taken r f t).counts
-taken_grows f n t h g (Ok b) = h b
-taken_grows f n t h g (Err e) = g
+if_accepted_grows : (f : Bid → Tally → Tally) (n : Counts) (t : Tally) → ((b : Bid) → Grown n (f b t).counts) → Grown n t.counts → (r : Result Bid Refusal) → Grown n (if_accepted r f t).counts
+if_accepted_grows f n t h g (Ok b) = h b
+if_accepted_grows f n t h g (Err e) = g
 
 call_grows : (m : Meaning) (n : Counts) (t : Tally) (i : ℕ) (act : Act) → Grown n t.counts → Grown n (called m i act t).counts
-call_grows m n t i act g = taken_grows (bids act i) n t (λ b. more act) g (bid_at m i act t)
+call_grows m n t i act g = if_accepted_grows (bids act i) n t (λ b. more act) g (bid_at m i act t)
   where
     more : (a : Act) → Grown n (counted a t.counts)
     more Summon = record { summonses_grow = omega (arith, g.summonses_grow); awards_grow = g.awards_grow; stales_grow = g.stales_grow; outs_grow = g.outs_grow }
@@ -75,7 +75,7 @@ call_grows m n t i act g = taken_grows (bids act i) n t (λ b. more act) g (bid_
     more Settle = g
 
 settle_grows : (m : Meaning) (n : Counts) (t : Tally) (i : ℕ) → Grown n t.counts → Grown n (settled m i t).counts
-settle_grows m n t i g = taken_grows (ended i) n t (λ b. more (best_worth b.best) (verdict_in t b)) g (bid_at m i Settle t)
+settle_grows m n t i g = if_accepted_grows (ended i) n t (λ b. more (best_worth b.best) (verdict_in t b)) g (bid_at m i Settle t)
   where
     more : (w : ℕ) (v : Verdict) → Grown n (carried_out i w v t).counts
     more w GoesOut = record { summonses_grow = g.summonses_grow; awards_grow = g.awards_grow; stales_grow = g.stales_grow; outs_grow = omega (arith, g.outs_grow) }
@@ -91,12 +91,12 @@ steps_grow m depth n r =
 abbrev all_made : Counts → ℕ
 all_made n = n.summonses + n.awards + n.stales + n.outs
 
-taken_made : (f : Bid → Tally → Tally) (t : Tally) → ((b : Bid) → all_made (f b t).counts ≤ all_made t.counts + 1) → (r : Result Bid Refusal) → all_made (taken r f t).counts ≤ all_made t.counts + 1
-taken_made f t h (Ok b) = h b
-taken_made f t h (Err e) = omega arith
+if_accepted_made : (f : Bid → Tally → Tally) (t : Tally) → ((b : Bid) → all_made (f b t).counts ≤ all_made t.counts + 1) → (r : Result Bid Refusal) → all_made (if_accepted r f t).counts ≤ all_made t.counts + 1
+if_accepted_made f t h (Ok b) = h b
+if_accepted_made f t h (Err e) = omega arith
 
 call_made : (m : Meaning) (t : Tally) (i : ℕ) (act : Act) → all_made (called m i act t).counts ≤ all_made t.counts + 1
-call_made m t i act = taken_made (bids act i) t (λ b. more act) (bid_at m i act t)
+call_made m t i act = if_accepted_made (bids act i) t (λ b. more act) (bid_at m i act t)
   where
     more : (a : Act) → all_made (counted a t.counts) ≤ all_made t.counts + 1
     more Summon = omega arith
@@ -104,7 +104,7 @@ call_made m t i act = taken_made (bids act i) t (λ b. more act) (bid_at m i act
     more Settle = omega arith
 
 settle_made : (m : Meaning) (t : Tally) (i : ℕ) → all_made (settled m i t).counts ≤ all_made t.counts + 1
-settle_made m t i = taken_made (ended i) t (λ b. more (best_worth b.best) (verdict_in t b)) (bid_at m i Settle t)
+settle_made m t i = if_accepted_made (ended i) t (λ b. more (best_worth b.best) (verdict_in t b)) (bid_at m i Settle t)
   where
     more : (w : ℕ) (v : Verdict) → all_made (carried_out i w v t).counts ≤ all_made t.counts + 1
     more w GoesOut = omega arith
@@ -186,7 +186,7 @@ module _ (m : Meaning) where
       waits : 1 ≤ one (is_waiting (standing_at t i))
       waits = omega (arith, times_first (λ z. z) i line, law.waits i)
 
-      pub summon_taken : bid_at m i Summon t ≡ Ok fresh
+      pub summon_taken : bid_at m i Summon t ≡ Ok new_bid
       summon_taken = bid_at_lem i Summon t Waiting (omega (arith, within is_waiting refl t.standings i waits, con.standings_sized)) (is_waiting_lem (standing_at t i) waits)
 
       abbrev n : ℕ
@@ -194,8 +194,8 @@ module _ (m : Meaning) where
 
       summons : InTally line (flight ++ in_flight i n ∷ []) (called m i Summon t)
       summons =
-          subst (λ r. InTally line (flight ++ in_flight i n ∷ []) (taken r (bids Summon i) t)) (sym summon_taken)
-          (joins m t.lanes i n line flight t.standings fresh law (ap (looks_for t.lanes) (omega arith)))
+          subst (λ r. InTally line (flight ++ in_flight i n ∷ []) (if_accepted r (bids Summon i) t)) (sym summon_taken)
+          (joins m t.lanes i n line flight t.standings new_bid law (ap (looks_for t.lanes) (omega arith)))
 
     -- Who is first in flight has a bid that has entries left to look at exactly if it has looks left, so that a look or a settle is accepted.
     module _ (f : InFlight) (line : List ℕ) (flight : List InFlight) (law : InTally line (f ∷ flight) t) where
@@ -226,7 +226,7 @@ module _ (m : Meaning) where
 
       looks : (left : ℕ) → f.looks_left ≡ suc left → InTally line (flight ++ in_flight f.carrier left ∷ []) (called m f.carrier Look t)
       looks left e =
-          subst (λ r. InTally line (flight ++ in_flight f.carrier left ∷ []) (taken r (bids Look f.carrier) t)) (sym (look_taken left e))
+          subst (λ r. InTally line (flight ++ in_flight f.carrier left ∷ []) (if_accepted r (bids Look f.carrier) t)) (sym (look_taken left e))
           (rotates m t.lanes f line flight t.standings law left further
           (let q : looks_for t.lanes (unseen - min t.lanes unseen) ≡ looks_for t.lanes (length row - further.looked) =
           ap (looks_for t.lanes) (omega (arith, (looks_on t.prices t.lanes row due.0).further)) in
@@ -257,7 +257,7 @@ module _ (m : Meaning) where
 
       settles : f.looks_left ≡ 0 → InTally (line ++ joins_line f.carrier (settle_answer f.carrier m (Some t))) flight (settled m f.carrier t)
       settles e =
-          subst (λ r. InTally (line ++ joins_line f.carrier (verdict_from t r)) flight (taken r (ended f.carrier) t)) (sym (settle_taken e))
+          subst (λ r. InTally (line ++ joins_line f.carrier (verdict_from t r)) flight (if_accepted r (ended f.carrier) t)) (sym (settle_taken e))
           (ends (best_worth due.0.best) (verdict_in t due.0) (judged_former t due.0.runner_up due.0.best))
 
       first_ordered : (left n : ℕ) → f.looks_left ≡ left → Ordered m (first_acts m f.carrier left line flight t n)

@@ -1,8 +1,8 @@
 -- Entries that were weighed count as looked at.
 use Rattle.std.proofs.Common.{◌≡◌, ℕ, ◌+◌, eqb, List, [], ◌∷◌, length, Some, None, fold, Option, refl, arith}
 use Rattle.std.proofs.lemmas.Bool.{cond_both}
-use Rattle.auction.specs.declared.standing.Best.{Best}
-use Rattle.auction.specs.declared.standing.Bid.{Bid}
+use Rattle.auction.specs.declared.bidding.Best.{Best}
+use Rattle.auction.specs.declared.bidding.Bid.{Bid}
 use Rattle.auction.specs.Bids.{beats, ranked, weighed}
 
 ranked_looked : (b : Bid) (o : Option Best) (x : Best) → (ranked b o x).looked ≡ b.looked + 1

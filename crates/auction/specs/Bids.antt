@@ -1,9 +1,9 @@
 -- How a bid is gathered, entry by entry, each at the price of the moment, and how it is judged.
 use Rattle.std.specs.Prelude.{ℕ, ◌+◌, ◌-◌, max, Bool, cond, ◌&&◌, ◌||◌, List, take, drop, ℤ, pos, negsuc, ◌-ℤ◌, Some, None, fold, Option, ◌==◌, int_le, int_lt, nat_le, nat_lt, slice_index, slice_index_or}
-use Rattle.auction.specs.declared.standing.Best.{Best}
-use Rattle.auction.specs.declared.standing.Bid.{Bid}
-use Rattle.auction.specs.declared.standing.Verdict.{Verdict}
-use Rattle.auction.specs.declared.standing.Verdict.TheVariants.{Out, Stale, Awarded}
+use Rattle.auction.specs.declared.bidding.Best.{Best}
+use Rattle.auction.specs.declared.bidding.Bid.{Bid}
+use Rattle.auction.specs.declared.bidding.Verdict.{Verdict}
+use Rattle.auction.specs.declared.bidding.Verdict.TheVariants.{Out, Stale, Awarded}
 
 -- 0 if negative.
 abbrev pub natural : ℤ → ℕ
@@ -11,8 +11,8 @@ natural (pos n) = n
 natural (negsuc n) = 0
 
 -- A bid with nothing looked at.
-abbrev pub fresh : Bid
-fresh = record { looked = 0; best = None; runner_up = 0 }
+abbrev pub new_bid : Bid
+new_bid = record { looked = 0; best = None; runner_up = 0 }
 
 -- The larger net is better, and of equal nets the smaller job.
 abbrev pub beats : Best → Best → Bool

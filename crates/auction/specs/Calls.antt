@@ -5,12 +5,12 @@ use Rattle.std.specs.Result.{result_map_both}
 use Rattle.sources.specs.Meaning.{Meaning}
 use Rattle.refusals.specs.declared.Refusal.{Refusal}
 use Rattle.refusals.specs.declared.Refusal.TheVariants.{NeverStarted, NoSuchCarrier, NoSuchJob}
-use Rattle.auction.specs.declared.standing.Standing.{Standing}
-use Rattle.auction.specs.declared.standing.Counts.{Counts}
-use Rattle.auction.specs.declared.call.Call.{Call}
-use Rattle.auction.specs.declared.call.Call.TheVariants.{Start, Summon, Look, Settle, Run, PriceOf, HolderOf, StandingOf, TotalWorth, AllCounts}
-use Rattle.auction.specs.declared.call.Answer.{Answer}
-use Rattle.auction.specs.declared.call.Answer.TheVariants.{Accepted, Settled, Ran, Price, Holder, Stands, Worth, Counted}
+use Rattle.auction.specs.declared.bidding.Standing.{Standing}
+use Rattle.auction.specs.declared.bidding.Counts.{Counts}
+use Rattle.auction.specs.declared.calls.Call.{Call}
+use Rattle.auction.specs.declared.calls.Call.TheVariants.{Start, Summon, Look, Settle, Run, PriceOf, HolderOf, StandingOf, TotalWorth, AllCounts}
+use Rattle.auction.specs.declared.calls.Answer.{Answer}
+use Rattle.auction.specs.declared.calls.Answer.TheVariants.{Accepted, Settled, Ran, Price, Holder, Stands, Worth, Counted}
 use Rattle.auction.specs.Tally.{Tally, price_at, holder_at, standing_at, total_worth}
 use Rattle.auction.specs.Rules.{start_answer, start_tally, summon_answer, summon_tally, look_answer, look_tally, settle_answer, settle_tally}
 use Rattle.auction.specs.Runs.{run_answer, run_tally}
@@ -41,23 +41,23 @@ counts_answer m (Some t) = Ok t.counts
 -- ---- one call
 
 -- What f makes of the answer, or the refusal.
-abbrev pub told : {A : Type 0} → (A → Answer) → Result A Refusal → Result Answer Refusal
-told f r = result_map_both f (λ e. e) r
+abbrev pub as_answer : {A : Type 0} → (A → Answer) → Result A Refusal → Result Answer Refusal
+as_answer f r = result_map_both f (λ e. e) r
 
 abbrev pub accepted : Unit {0} → Answer
 accepted x = Accepted
 
 unfoldable pub answer_to : Meaning → Option Tally → Call → Result Answer Refusal
-answer_to m o (Start step lanes) = told accepted (start_answer step lanes m)
-answer_to m o (Summon i) = told accepted (summon_answer i m o)
-answer_to m o (Look i) = told accepted (look_answer i m o)
-answer_to m o (Settle i) = told Settled (settle_answer i m o)
-answer_to m o (Run depth budget) = told Ran (run_answer depth budget m o)
-answer_to m o (PriceOf j) = told Price (price_answer j m o)
-answer_to m o (HolderOf j) = told Holder (holder_answer j m o)
-answer_to m o (StandingOf i) = told Stands (standing_answer i m o)
-answer_to m o TotalWorth = told Worth (worth_answer m o)
-answer_to m o AllCounts = told Counted (counts_answer m o)
+answer_to m o (Start step lanes) = as_answer accepted (start_answer step lanes m)
+answer_to m o (Summon i) = as_answer accepted (summon_answer i m o)
+answer_to m o (Look i) = as_answer accepted (look_answer i m o)
+answer_to m o (Settle i) = as_answer Settled (settle_answer i m o)
+answer_to m o (Run depth budget) = as_answer Ran (run_answer depth budget m o)
+answer_to m o (PriceOf j) = as_answer Price (price_answer j m o)
+answer_to m o (HolderOf j) = as_answer Holder (holder_answer j m o)
+answer_to m o (StandingOf i) = as_answer Stands (standing_answer i m o)
+answer_to m o TotalWorth = as_answer Worth (worth_answer m o)
+answer_to m o AllCounts = as_answer Counted (counts_answer m o)
 
 unfoldable pub tally_by : Meaning → Option Tally → Call → Option Tally
 tally_by m o (Start step lanes) = start_tally step lanes m o

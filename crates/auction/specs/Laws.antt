@@ -2,12 +2,12 @@
 use Rattle.std.specs.Prelude.{◌≡◌, ℕ, ◌+◌, ◌-◌, ◌*◌, ◌<◌, ◌≤◌, List, [], ◌∷◌, map, length, take, pos, ◌-ℤ◌, ◌<ℤ◌, Some, None, count_by, Option, Contains, ◌≢◌, slice_index_or, ◌↔◌}
 use Rattle.sources.specs.Meaning.{Meaning, row_of, worth_in, worth_of}
 use Rattle.sources.specs.Layers.{times_of}
-use Rattle.auction.specs.declared.standing.Award.{Award}
-use Rattle.auction.specs.declared.standing.Best.{Best}
-use Rattle.auction.specs.declared.standing.Bid.{Bid}
-use Rattle.auction.specs.declared.standing.Held.{Held}
-use Rattle.auction.specs.declared.standing.Verdict.TheVariants.{Stale, Awarded}
-use Rattle.auction.specs.declared.standing.Standing.TheVariants.{Bidding, Served, Out}
+use Rattle.auction.specs.declared.bidding.Award.{Award}
+use Rattle.auction.specs.declared.bidding.Best.{Best}
+use Rattle.auction.specs.declared.bidding.Bid.{Bid}
+use Rattle.auction.specs.declared.bidding.Held.{Held}
+use Rattle.auction.specs.declared.bidding.Verdict.TheVariants.{Stale, Awarded}
+use Rattle.auction.specs.declared.bidding.Standing.TheVariants.{Bidding, Served, Out}
 use Rattle.auction.specs.Standings.{is_waiting, is_bidding, is_served, ServedOrOut, job_served}
 use Rattle.auction.specs.Tally.{Tally, price_at, holder_at, standing_at, total_worth}
 use Rattle.auction.specs.Bids.{natural, offer}

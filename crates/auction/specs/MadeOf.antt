@@ -2,13 +2,13 @@
 use Rattle.std.specs.Prelude.{◌≡◌, ℕ, ◌<◌, ◌≤◌, max, Bool, true, false, List, [], ◌∷◌, ◌++◌, map, length, replicate, is_ok, Some, Ok, Contains, flat_map, ◌≢◌, ◌↔◌}
 use Rattle.std.specs.List.{AllByRecursion}
 use Rattle.sources.specs.Meaning.{Meaning, row_of}
-use Rattle.auction.specs.declared.standing.Act.{Act}
-use Rattle.auction.specs.declared.standing.Act.TheVariants.{Summon as Summons, Look as Looks, Settle as Settles}
-use Rattle.auction.specs.declared.standing.Report.{Report}
-use Rattle.auction.specs.declared.standing.Standing.{Standing}
-use Rattle.auction.specs.declared.standing.Verdict.{Verdict}
-use Rattle.auction.specs.declared.call.Call.{Call}
-use Rattle.auction.specs.declared.call.Call.TheVariants.{Summon, Look, Settle}
+use Rattle.auction.specs.declared.bidding.Act.{Act}
+use Rattle.auction.specs.declared.bidding.Act.TheVariants.{Summon as Summons, Look as Looks, Settle as Settles}
+use Rattle.auction.specs.declared.bidding.Report.{Report}
+use Rattle.auction.specs.declared.bidding.Standing.{Standing}
+use Rattle.auction.specs.declared.bidding.Verdict.{Verdict}
+use Rattle.auction.specs.declared.calls.Call.{Call}
+use Rattle.auction.specs.declared.calls.Call.TheVariants.{Summon, Look, Settle}
 use Rattle.auction.specs.Standings.{is_waiting, is_bidding, looks_for}
 use Rattle.auction.specs.Tally.{Tally, standing_at}
 use Rattle.auction.specs.Rules.{settle_answer}

@@ -1,7 +1,7 @@
 -- Where tallies come from.
 use Rattle.std.specs.Prelude.{◌≡◌, List, Some, Option}
 use Rattle.sources.specs.Meaning.{Meaning}
-use Rattle.auction.specs.declared.call.Call.{Call}
+use Rattle.auction.specs.declared.calls.Call.{Call}
 use Rattle.auction.specs.Tally.{Tally}
 use Rattle.auction.specs.Calls.{tally_after}
 use Rattle.auction.specs.Laws.{AuctionLaws}
@@ -11,5 +11,5 @@ abbrev pub Reached : Meaning → Option Tally → Type 0
 Reached m o = ∥ ((calls : List Call) × (tally_after m calls ≡ o)) ∥₁
 
 -- The laws of the auction hold of the tally, if there is one.
-abbrev pub Lawful : Meaning → Option Tally → Type 0
-Lawful m o = (t : Tally) → o ≡ Some t → AuctionLaws m t
+abbrev pub LawsHold : Meaning → Option Tally → Type 0
+LawsHold m o = (t : Tally) → o ≡ Some t → AuctionLaws m t

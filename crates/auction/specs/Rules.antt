@@ -8,16 +8,16 @@ use Rattle.sources.specs.Sheets.{within_limits}
 use Rattle.sources.specs.Tables.{heading_of}
 use Rattle.refusals.specs.declared.Refusal.{Refusal}
 use Rattle.refusals.specs.declared.Refusal.TheVariants.{CountsOutside, NeverStarted, StepOutside, LanesOutside, NoSuchCarrier, NotWaiting, NoOpenBid, RowLookedAt, RowNotLookedAt}
-use Rattle.auction.specs.declared.standing.Bid.{Bid}
-use Rattle.auction.specs.declared.standing.Counts.{Counts}
-use Rattle.auction.specs.declared.standing.Act.{Act}
-use Rattle.auction.specs.declared.standing.Act.TheVariants.{Summon, Look, Settle}
-use Rattle.auction.specs.declared.standing.Standing.{Standing}
-use Rattle.auction.specs.declared.standing.Standing.TheVariants.{Waiting, Bidding, Served, Out}
-use Rattle.auction.specs.declared.standing.Verdict.{Verdict}
-use Rattle.auction.specs.declared.standing.Verdict.TheVariants.{Out as GoesOut, Stale, Awarded}
+use Rattle.auction.specs.declared.bidding.Bid.{Bid}
+use Rattle.auction.specs.declared.bidding.Counts.{Counts}
+use Rattle.auction.specs.declared.bidding.Act.{Act}
+use Rattle.auction.specs.declared.bidding.Act.TheVariants.{Summon, Look, Settle}
+use Rattle.auction.specs.declared.bidding.Standing.{Standing}
+use Rattle.auction.specs.declared.bidding.Standing.TheVariants.{Waiting, Bidding, Served, Out}
+use Rattle.auction.specs.declared.bidding.Verdict.{Verdict}
+use Rattle.auction.specs.declared.bidding.Verdict.TheVariants.{Out as GoesOut, Stale, Awarded}
 use Rattle.auction.specs.Limits.{highest_step, most_lanes}
-use Rattle.auction.specs.Bids.{fresh, looked_on, judged, best_worth}
+use Rattle.auction.specs.Bids.{new_bid, looked_on, judged, best_worth}
 use Rattle.auction.specs.Tally.{Tally, standing_at}
 
 -- ---- start: everything is set back, also while an auction is under way
@@ -37,8 +37,8 @@ abbrev pub no_counts : Counts
 no_counts = record { summonses = 0; awards = 0; stales = 0; outs = 0 }
 
 -- Every price is 0, nobody holds a job, every carrier waits, and every count is 0.
-unfoldable pub opened : ℕ → ℕ → ℕ → ℕ → Tally
-opened carriers jobs step lanes = record {
+unfoldable pub tally_at_start : ℕ → ℕ → ℕ → ℕ → Tally
+tally_at_start carriers jobs step lanes = record {
   step = step;
   lanes = lanes;
   prices = replicate jobs 0;
@@ -52,7 +52,7 @@ start_tally_by (Ok x) new o = Some new
 start_tally_by (Err e) new o = o
 
 abbrev pub start_tally : ℕ → ℕ → Meaning → Option Tally → Option Tally
-start_tally step lanes m o = start_tally_by (start_answer step lanes m) (opened m.carriers m.jobs step lanes) o
+start_tally step lanes m o = start_tally_by (start_answer step lanes m) (tally_at_start m.carriers m.jobs step lanes) o
 
 -- ---- a carrier's standing and the call together: the bid that the call begins, carries on or finds ready to be judged
 
@@ -61,7 +61,7 @@ abbrev pub looked_all : List (ℕ × ℕ) → Bid → Bool
 looked_all row b = nat_le (length row) b.looked
 
 abbrev pub bid_after : ℕ → List ℕ → List (ℕ × ℕ) → Standing → Act → Result Bid Refusal
-bid_after lanes prices row Waiting Summon = Ok fresh
+bid_after lanes prices row Waiting Summon = Ok new_bid
 bid_after lanes prices row Waiting Look = Err NoOpenBid
 bid_after lanes prices row Waiting Settle = Err NoOpenBid
 bid_after lanes prices row (Bidding b) Summon = Err NotWaiting
@@ -88,13 +88,13 @@ abbrev pub success_of : Result Bid Refusal → Result (Unit {0}) Refusal
 success_of r = result_map_both (λ _. tt) (λ e. e) r
 
 -- A refused call leaves the tally as it was.
-abbrev pub taken : Result Bid Refusal → (Bid → Tally → Tally) → Tally → Tally
-taken (Ok b) f t = f b t
-taken (Err e) f t = t
+abbrev pub if_accepted : Result Bid Refusal → (Bid → Tally → Tally) → Tally → Tally
+if_accepted (Ok b) f t = f b t
+if_accepted (Err e) f t = t
 
 -- The carrier's standing becomes s, and the counts become n; all else stays.
-abbrev pub stands : ℕ → Standing → Counts → Tally → Tally
-stands i s n t = record {
+abbrev pub with_standing : ℕ → Standing → Counts → Tally → Tally
+with_standing i s n t = record {
   step = t.step;
   lanes = t.lanes;
   prices = t.prices;
@@ -111,10 +111,10 @@ counted Look n = n
 counted Settle n = n
 
 abbrev pub bids : Act → ℕ → Bid → Tally → Tally
-bids act i b t = stands i (Bidding b) (counted act t.counts) t
+bids act i b t = with_standing i (Bidding b) (counted act t.counts) t
 
 abbrev pub called : Meaning → ℕ → Act → Tally → Tally
-called m i act t = taken (bid_at m i act t) (bids act i) t
+called m i act t = if_accepted (bid_at m i act t) (bids act i) t
 
 abbrev pub summon_answer : ℕ → Meaning → Option Tally → Result (Unit {0}) Refusal
 summon_answer i m o = success_of (bid_by m i Summon o)
@@ -146,8 +146,8 @@ counted_award n = record { summonses = n.summonses; awards = n.awards + 1; stale
 
 -- What a verdict on the bid of carrier i changes; worth is what the best job is worth to it.
 abbrev pub carried_out : ℕ → ℕ → Verdict → Tally → Tally
-carried_out i worth GoesOut t = stands i Out (counted_out t.counts) t
-carried_out i worth Stale t = stands i Waiting (counted_stale t.counts) t
+carried_out i worth GoesOut t = with_standing i Out (counted_out t.counts) t
+carried_out i worth Stale t = with_standing i Waiting (counted_stale t.counts) t
 carried_out i worth (Awarded a) t = record {
   step = t.step;
   lanes = t.lanes;
@@ -171,7 +171,7 @@ abbrev pub ended : ℕ → Bid → Tally → Tally
 ended i b t = carried_out i (best_worth b.best) (verdict_in t b) t
 
 abbrev pub settled : Meaning → ℕ → Tally → Tally
-settled m i t = taken (bid_at m i Settle t) (ended i) t
+settled m i t = if_accepted (bid_at m i Settle t) (ended i) t
 
 abbrev pub settle_tally : ℕ → Meaning → Option Tally → Option Tally
 settle_tally i m o = option_map (settled m i) o

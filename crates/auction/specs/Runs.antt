@@ -4,15 +4,15 @@ use Rattle.std.specs.Option.{option_map, option_to_list}
 use Rattle.sources.specs.Meaning.{Meaning, row_of}
 use Rattle.refusals.specs.declared.Refusal.{Refusal}
 use Rattle.refusals.specs.declared.Refusal.TheVariants.{NeverStarted, DepthOutside}
-use Rattle.auction.specs.declared.standing.Act.TheVariants.{Summon, Look}
-use Rattle.auction.specs.declared.standing.Counts.{Counts}
-use Rattle.auction.specs.declared.standing.InFlight.{InFlight}
-use Rattle.auction.specs.declared.standing.Standing.{Standing}
-use Rattle.auction.specs.declared.standing.Verdict.{Verdict}
-use Rattle.auction.specs.declared.standing.Verdict.TheVariants.{Out as GoesOut, Stale, Awarded}
-use Rattle.auction.specs.declared.standing.Ending.{Ending}
-use Rattle.auction.specs.declared.standing.Ending.TheVariants.{Done, Spent}
-use Rattle.auction.specs.declared.standing.Report.{Report}
+use Rattle.auction.specs.declared.bidding.Act.TheVariants.{Summon, Look}
+use Rattle.auction.specs.declared.bidding.Counts.{Counts}
+use Rattle.auction.specs.declared.bidding.InFlight.{InFlight}
+use Rattle.auction.specs.declared.bidding.Standing.{Standing}
+use Rattle.auction.specs.declared.bidding.Verdict.{Verdict}
+use Rattle.auction.specs.declared.bidding.Verdict.TheVariants.{Out as GoesOut, Stale, Awarded}
+use Rattle.auction.specs.declared.bidding.Ending.{Ending}
+use Rattle.auction.specs.declared.bidding.Ending.TheVariants.{Done, Spent}
+use Rattle.auction.specs.declared.bidding.Report.{Report}
 use Rattle.auction.specs.Standings.{is_waiting, is_bidding, if_waiting, in_flight, looks_for, if_bidding}
 use Rattle.auction.specs.Tally.{Tally}
 use Rattle.auction.specs.Rules.{between, called, settle_answer, settled}

@@ -2,11 +2,11 @@
 use Rattle.std.specs.Prelude.{◌≡◌, ℕ, ◌+◌, ◌-◌, false, List, ◌≤ℤ◌, ◌<ℤ◌, pos, Some, Ok}
 use Rattle.std.specs.List.{AllByRecursion}
 use Rattle.sources.specs.Meaning.{Meaning, row_of}
-use Rattle.auction.specs.declared.call.Call.{Call}
-use Rattle.auction.specs.declared.standing.Award.{Award}
-use Rattle.auction.specs.declared.standing.Best.{Best}
-use Rattle.auction.specs.declared.standing.Verdict.{Verdict}
-use Rattle.auction.specs.declared.standing.Verdict.TheVariants.{Out, Stale, Awarded}
+use Rattle.auction.specs.declared.calls.Call.{Call}
+use Rattle.auction.specs.declared.bidding.Award.{Award}
+use Rattle.auction.specs.declared.bidding.Best.{Best}
+use Rattle.auction.specs.declared.bidding.Verdict.{Verdict}
+use Rattle.auction.specs.declared.bidding.Verdict.TheVariants.{Out, Stale, Awarded}
 use Rattle.auction.specs.Bids.{natural}
 use Rattle.auction.specs.Looks.{nets_at, BestOf}
 use Rattle.auction.specs.Standings.{is_bidding}

@@ -1,10 +1,10 @@
 -- What is said of a carrier's standing, and of the bid that it keeps. A function names the standings of its kind; one clause takes the others.
 use Rattle.std.specs.Prelude.{◌≡◌, ℕ, ◌+◌, ◌-◌, ◌/◌, ◌<◌, ◌≤◌, Bool, true, false, List, [], ◌∷◌, length, pos, ◌-ℤ◌, ◌≤ℤ◌, Some, None, Option, ◌==◌, int_lt, slice_index}
 use Rattle.sources.specs.Meaning.{Meaning, row_of}
-use Rattle.auction.specs.declared.standing.Best.{Best}
-use Rattle.auction.specs.declared.standing.InFlight.{InFlight}
-use Rattle.auction.specs.declared.standing.Standing.{Standing}
-use Rattle.auction.specs.declared.standing.Standing.TheVariants.{Waiting, Bidding, Served, Out}
+use Rattle.auction.specs.declared.bidding.Best.{Best}
+use Rattle.auction.specs.declared.bidding.InFlight.{InFlight}
+use Rattle.auction.specs.declared.bidding.Standing.{Standing}
+use Rattle.auction.specs.declared.bidding.Standing.TheVariants.{Waiting, Bidding, Served, Out}
 use Rattle.auction.specs.Bids.{natural}
 
 -- ---- which it is

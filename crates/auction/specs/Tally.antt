@@ -1,8 +1,8 @@
 -- The state of an auction.
 use Rattle.std.specs.Prelude.{ℕ, Bool, false, List, Some, None, sum_by, Option, ◌==◌, slice_index, slice_index_or}
-use Rattle.auction.specs.declared.standing.Counts.{Counts}
-use Rattle.auction.specs.declared.standing.Standing.{Standing}
-use Rattle.auction.specs.declared.standing.Standing.TheVariants.{Out}
+use Rattle.auction.specs.declared.bidding.Counts.{Counts}
+use Rattle.auction.specs.declared.bidding.Standing.{Standing}
+use Rattle.auction.specs.declared.bidding.Standing.TheVariants.{Out}
 use Rattle.auction.specs.Standings.{worth_served}
 
 pub record Tally : Type 0 where

@@ -1,6 +1,12 @@
 //! An auction of jobs among carriers: what a bid, a standing, a call and an answer are, and by which rules they change.
 #![tactic(auto)]
 
-pub mod call;
+mod bidding;
+mod calls;
 pub mod limits;
-pub mod standing;
+
+pub use bidding::{
+    Act, Award, Best, Bid, Counts, Ending, Held, InFlight, Report, Standing, Verdict,
+};
+pub use calls::{Answer, Call};
+pub use limits::{GREATEST_DEPTH, HIGHEST_STEP, MOST_LANES};

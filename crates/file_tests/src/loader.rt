@@ -1,7 +1,7 @@
 //! The states of the loader.
 use refusals::{Fault, Refusal};
-use sheetfile::loader::Bare;
-use sources::form::{Entry, Heading};
+use sheetfile::Bare;
+use sources::{Entry, Heading};
 use three_by_three::{FILE, HEADING};
 
 // What comes of closing the file after so many rows.

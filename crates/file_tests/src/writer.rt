@@ -1,7 +1,6 @@
 //! The writer.
-use sheetfile::writer::write;
-use sources::floor::Floor;
-use sources::sheet::Sheet;
+use sheetfile::write;
+use sources::{Floor, Sheet};
 use std::test::Fail;
 use three_by_three::{ENTRIES, HEADING, STARTS};
 

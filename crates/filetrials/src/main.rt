@@ -6,15 +6,8 @@
 use grids::draws::Draw;
 use grids::groups::push_number;
 use refusals::{Fault, Refusal};
-use sheetfile::loader::Bare;
-use sheetfile::owned::OwnTables;
-use sheetfile::rewriting::rewrite;
-use sheetfile::whole::{load, sheet_over};
-use sources::asking::{heading_of, row_length};
-use sources::checks::MOST_CARRIERS;
-use sources::form::{Entry, Heading};
-use sources::sheet::Sheet;
-use sources::source::Source;
+use sheetfile::{Bare, OwnTables, load, rewrite, sheet_over};
+use sources::{Entry, Heading, MOST_CARRIERS, Sheet, Source, heading_of, row_length};
 use std::alloc::{AllocError, Global};
 use std::collections::BTreeMap;
 use std::fmt;

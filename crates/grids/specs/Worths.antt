@@ -4,8 +4,8 @@ use Rattle.std.specs.Option.{option_map, unwrap_or}
 use Rattle.grids.specs.declared.Grid.{Grid}
 
 -- What a job is worth to a carrier; 0 where there is no such carrier or job.
-abbrev pub worth_at : List (List ℕ) → ℕ → ℕ → ℕ
-worth_at rows i j = slice_index (slice_index_or rows i []) j
+abbrev pub grid_worth : List (List ℕ) → ℕ → ℕ → ℕ
+grid_worth rows i j = slice_index (slice_index_or rows i []) j
 
 -- Sums and products stop at the largest number of 64 bits.
 abbrev pub capped : ℕ → ℕ
@@ -44,4 +44,4 @@ pub record Within (most : ℕ) (g : Grid) : Type 0 where
   pub jobs : (1 ≤ g.jobs) × (g.jobs ≤ 4)
   pub ceiling : (1 ≤ g.ceiling) × (g.ceiling ≤ max most 1)
   pub rows : (i : ℕ) → RowWithin g.jobs g.ceiling (slice_index_or g.worths i [])
-  pub empty : (i j : ℕ) → g.carriers ≤ i → worth_at g.worths i j ≡ 0
+  pub empty : (i j : ℕ) → g.carriers ≤ i → grid_worth g.worths i j ≡ 0

@@ -6,7 +6,7 @@ pub mod groups;
 
 ghost use Rattle.std.specs.Prelude.{◌≡◌, ℕ, ◌≤◌, ◌*◌, if◌then◌else◌, false, [], map, slice_index, slice_index_or};
 ghost use Rattle.grids.specs.Drawn.{grid_drawn, row_drawn, worth_drawn};
-ghost use Rattle.grids.specs.Worths.{IsBest, RowWithin, Within, capped, floored, pairing_worth, worth_at};
+ghost use Rattle.grids.specs.Worths.{IsBest, RowWithin, Within, capped, floored, pairing_worth, grid_worth};
 
 use draws::Draw;
 
@@ -47,7 +47,7 @@ impl Grid {
 
     /// What a job is worth to a carrier; 0 where there is no such carrier or job.
     pub fn worth(&self, carrier: usize, job: usize) -> u64
-        ensures { result ≡ worth_at self.now.worths carrier job }
+        ensures { result ≡ grid_worth self.now.worths carrier job }
     {
         self.worths
             .get(carrier)
@@ -92,7 +92,7 @@ impl Grid {
         ensures counts { (result.carriers ≡ self.now.carriers) × (result.jobs ≡ self.now.jobs) }
         ensures ceiling { result.ceiling ≡ self.now.ceiling }
         ensures worths { (i j : ℕ) →
-            worth_at result.worths i j ≡ (if slice_index_or carriers.now i false then worth_at self.now.worths i j else 0) }
+            grid_worth result.worths i j ≡ (if slice_index_or carriers.now i false then grid_worth self.now.worths i j else 0) }
     {
         let mut worths = self.worths;
         // By index: after a zip of `iter_mut` with the carriers a proof does not know what was written.

@@ -6,20 +6,20 @@ use Rattle.sources.specs.Meaning.{Meaning, Sound, row_of}
 use Rattle.sources.specs.Tables.{heading_of}
 use Rattle.refusals.specs.declared.Refusal.{Refusal}
 use Rattle.refusals.specs.declared.Refusal.TheVariants.{NoSuchCarrier}
-use Rattle.auction.specs.declared.standing.Bid.{Bid}
-use Rattle.auction.specs.declared.standing.Counts.{Counts}
-use Rattle.auction.specs.declared.standing.Act.{Act}
-use Rattle.auction.specs.declared.standing.Standing.{Standing}
-use Rattle.auction.specs.declared.standing.Standing.TheVariants.{Waiting, Bidding}
+use Rattle.auction.specs.declared.bidding.Bid.{Bid}
+use Rattle.auction.specs.declared.bidding.Counts.{Counts}
+use Rattle.auction.specs.declared.bidding.Act.{Act}
+use Rattle.auction.specs.declared.bidding.Standing.{Standing}
+use Rattle.auction.specs.declared.bidding.Standing.TheVariants.{Waiting, Bidding}
 use Rattle.auction.specs.Tally.{Tally}
-use Rattle.auction.specs.Rules.{bid_after, bid_at, taken, stands, bids, called}
+use Rattle.auction.specs.Rules.{bid_after, bid_at, if_accepted, with_standing, bids, called}
 use Rattle.auction.proofs.Keeping.{call_consistent}
 use Rattle.hall.specs.declared.books.Books.{Books}
-use Rattle.hall.specs.Kept.{Kept, tally_held}
+use Rattle.hall.specs.BooksSound.{BooksSound, tally_held}
 use Rattle.hall.specs.InBooks.{NotedOf, tally_in}
 use Rattle.hall.specs.Steps.{standing_after, counts_after}
-use Rattle.hall.proofs.Keeps.{kept_out, kept_by}
-use Rattle.hall.proofs.Tables.{same_tally, stands_in, renoted, consistent_in, standing_in}
+use Rattle.hall.proofs.Keeps.{sound_out, sound_by}
+use Rattle.hall.proofs.Tables.{same_tally, with_standing_in, renoted, consistent_in, standing_in}
 
 -- An accepted call finds a carrier that is there.
 module _ (m : Meaning) (i : ℕ) (act : Act) (b : Books) (noted : NotedOf m b) (x : Bid) (answer : Ok x ≡ bid_at m i act (tally_in b)) where
@@ -52,19 +52,19 @@ module _ (m : Meaning) (i : ℕ) (act : Act) (b : Books) (noted : NotedOf m b) (
   after = tally_held b.noted b.step b.lanes b.prices b.holders (set b.standings i s) n
 
   pub call_tallied : after ≡ called m i act (tally_in b)
-  call_tallied = each r stood numbered ∙ ap (λ q. taken q (bids act i) (tally_in b)) call_answered
+  call_tallied = each r stood numbered ∙ ap (λ q. if_accepted q (bids act i) (tally_in b)) call_answered
     where
       each : (q : Result Bid Refusal) → s ≡ standing_after (get_or b.standings i Waiting) q → n ≡ counts_after act b.counts q →
-          after ≡ taken q (bids act i) (tally_in b)
+          after ≡ if_accepted q (bids act i) (tally_in b)
       each (Ok x) st nu =
-          stands_in b i s n ∙ ap (λ z. stands i z n (tally_in b)) st ∙ ap (λ z. stands i (Bidding x) z (tally_in b)) nu
+          with_standing_in b i s n ∙ ap (λ z. with_standing i z n (tally_in b)) st ∙ ap (λ z. with_standing i (Bidding x) z (tally_in b)) nu
       each (Err e) st nu =
           same_tally after (tally_in b) refl refl refl refl (ap (take b.noted.carriers) (ap (set b.standings i) st ∙ set-get_or b.standings i Waiting)) nu
 
-  pub call_keeps : Sound m → Kept b.noted b.step b.lanes b.prices b.holders (set b.standings i s) n
+  pub call_keeps : Sound m → BooksSound b.noted b.step b.lanes b.prices b.holders (set b.standings i s) n
   call_keeps sound =
-      let k = kept_out b.kept in
-      kept_by (called m i act (tally_in b)) k.prices_long k.holders_long (length-set b.standings i s ∙ k.standings_long) call_tallied
+      let k = sound_out b.sound in
+      sound_by (called m i act (tally_in b)) k.prices_long k.holders_long (length-set b.standings i s ∙ k.standings_long) call_tallied
       (renoted (heading_of m) b.noted (called m i act (tally_in b)) (sym noted)
       (call_consistent m sound (tally_in b) (renoted b.noted (heading_of m) (tally_in b) noted (consistent_in b)) i act))
 

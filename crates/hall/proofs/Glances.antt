@@ -5,8 +5,8 @@ use Rattle.std.proofs.lemmas.Int.{int_wrap_fits, wrapping_sub-bits, clamps}
 use lib.Signed.{lt_z}
 use borrow.Author.Differences.{up, down, ints, lt-true, lt-false}
 use Rattle.std.proofs.lemmas.Bool.{cond_both, eqb-true, ltb-true, and_parts, or_cases}
-use Rattle.auction.specs.declared.standing.Best.{Best}
-use Rattle.auction.specs.declared.standing.Bid.{Bid}
+use Rattle.auction.specs.declared.bidding.Best.{Best}
+use Rattle.auction.specs.declared.bidding.Bid.{Bid}
 use Rattle.auction.specs.Bids.{natural, beats, ranked, weighed, weighed_at, looked_on}
 use Rattle.auction.proofs.Nets.{natural-up, sides, better, no_better}
 use Rattle.hall.specs.declared.books.glance.Glance.{Glance}
@@ -116,7 +116,7 @@ module _ (prices : List ℕ) (old : Option Best) (first p j w low : ℕ) (s : Gl
           net = f.net;
           runner = runner_on ∙ ap pos m;
           found = found_on;
-          kept = f.kept;
+          kept = f.sound;
           lasts = f.lasts;
           begun = next;
           held = f.held;
@@ -135,7 +135,7 @@ module _ (prices : List ℕ) (old : Option Best) (first p j w low : ℕ) (s : Gl
         net = f.net ∙ ap pos (sym a);
         runner = runner_on None b.runner_up f ∙ ap pos m;
         found = λ h. absurd (let q = (f.found h).some in omega (arith, q));
-        kept = λ h. a ∙ f.kept h;
+        kept = λ h. a ∙ f.sound h;
         lasts = λ h z. absurd (omega (arith, a, z));
         begun = next None b.runner_up f;
         held = f.held;
@@ -163,7 +163,7 @@ module _ (prices : List ℕ) (old : Option Best) (first p j w low : ℕ) (s : Gl
           net = f.net ∙ ap pos (sym a);
           runner = runner_on (Some x) b.runner_up f ∙ ap (λ k. pos (max b.runner_up k)) a;
           found = λ h. absurd (let q = f.found h in none_better t e (ap net_of q.best) (subst (λ k. k < low) (sym (ap job_of q.best)) q.before));
-          kept = λ h. a ∙ f.kept h;
+          kept = λ h. a ∙ f.sound h;
           lasts = λ h z d. absurd (
               let above : 0 < natural x.net = omega (arith, a, z) in
               ⊎_elim (λ u. omega (arith, a, u))
@@ -183,7 +183,7 @@ module _ (prices : List ℕ) (old : Option Best) (first p j w low : ℕ) (s : Gl
       net = f.net;
       runner = runner_on (Some x) b.runner_up f;
       found = found_on (Some x) b.runner_up f;
-      kept = f.kept;
+      kept = f.sound;
       lasts = λ h z d. f.lasts h z (⊎_elim (λ u. inl (omega (arith, u))) (λ u. inr u) d);
       begun = next (Some x) b.runner_up f;
       held = f.held;
@@ -264,7 +264,7 @@ tie_won (Some x) next e q t =
 pub still_best : (prices : List ℕ) (old o : Option Best) (first r low : ℕ) (s : Glance) (next : Option (ℕ × ℕ)) (e : ℕ × ℕ) → Fits prices old first s o r low → 256 ≤ s.job →
     unwrap_or next (0, 0) ≡ e → e.0 ≡ first → lasts s next old ≡ true → o ≡ old
 still_best prices old o first r low s next e f none q at t =
-    let top = f.kept none in
+    let top = f.sound none in
     ⊎_elim
     (λ u. let l = lt-true s.runner_up s.net u in let below : r < top_net o = omega (arith, l, ap up f.runner, ap down f.runner, ap up f.net, ap down f.net) in
     f.lasts none (omega (arith, below)) (inl below))

@@ -2,12 +2,12 @@
 use Rattle.std.proofs.Common.{◌≡◌, ℕ, ◌<◌, length, get_or, take, Ok, sym, ap, ◌∙◌, subst, arith}
 use Rattle.std.proofs.lemmas.List.{get_or-set_same}
 use Rattle.sources.specs.Meaning.{Meaning, row_of}
-use Rattle.auction.specs.declared.standing.Bid.{Bid}
-use Rattle.auction.specs.declared.standing.Act.TheVariants.{Look}
-use Rattle.auction.specs.declared.standing.Standing.TheVariants.{Waiting, Bidding, Out}
+use Rattle.auction.specs.declared.bidding.Bid.{Bid}
+use Rattle.auction.specs.declared.bidding.Act.TheVariants.{Look}
+use Rattle.auction.specs.declared.bidding.Standing.TheVariants.{Waiting, Bidding, Out}
 use Rattle.auction.specs.Tally.{standing_at}
 use Rattle.auction.specs.Looks.{LooksOn, Looks}
-use Rattle.auction.specs.Rules.{bid_at, taken, bids, called}
+use Rattle.auction.specs.Rules.{bid_at, if_accepted, bids, called}
 use Rattle.auction.proofs.Gathering.{looks_on, look_from}
 use Rattle.hall.specs.declared.books.Books.{Books}
 use Rattle.hall.specs.InBooks.{NotedOf, tally_in}
@@ -18,7 +18,7 @@ pub looks_in : (m : Meaning) (i : ℕ) (x : Bid) (old new : Books) → NotedOf m
     Looks m i (tally_in old) (tally_in new)
 looks_in m i x old new noted answer tallied =
     let found = look_from old.lanes (take old.noted.jobs old.prices) (row_of m i) (get_or old.standings i Waiting) x (sym (bid_given m i Look old noted x answer)) in
-    let after : tally_in new ≡ bids Look i x (tally_in old) = tallied ∙ ap (λ r. taken r (bids Look i) (tally_in old)) (sym answer) in
+    let after : tally_in new ≡ bids Look i x (tally_in old) = tallied ∙ ap (λ r. if_accepted r (bids Look i) (tally_in old)) (sym answer) in
     let known = bid_known m i Look old noted x answer in
     let inside : i < length (tally_in old).standings = omega (arith, known, (consistent_in old).standings_sized) in
     record {

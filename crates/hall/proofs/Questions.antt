@@ -2,13 +2,13 @@
 use Rattle.std.proofs.Common.{◌≡◌, ℕ, ◌^◌, ◌<◌, ◌≤◌, length, get_or, take, sum_by, sym, ◌∙◌, subst, arith}
 use Rattle.std.proofs.lemmas.List.{get_or-take, length-take-le}
 use Rattle.std.proofs.ByRecursion.{All-from_get_or, sum_by_le}
-use Rattle.auction.specs.declared.standing.Standing.{Standing}
-use Rattle.auction.specs.declared.standing.Standing.TheVariants.{Served, Out}
+use Rattle.auction.specs.declared.bidding.Standing.{Standing}
+use Rattle.auction.specs.declared.bidding.Standing.TheVariants.{Served, Out}
 use Rattle.auction.specs.Standings.{worth_served, StandingSound}
 use Rattle.auction.specs.Tally.{standing_at}
 use Rattle.hall.specs.declared.books.Books.{Books}
 use Rattle.hall.specs.InBooks.{tally_in}
-use Rattle.hall.proofs.Keeps.{kept_out}
+use Rattle.hall.proofs.Keeps.{sound_out}
 use Rattle.hall.proofs.Tables.{consistent_in}
 
 worth_low : (jobs ceiling : ℕ) (s : Standing) → ceiling ≤ 2 ^ 36 → StandingSound jobs ceiling s → worth_served s ≤ 2 ^ 36
@@ -17,7 +17,7 @@ worth_low jobs ceiling _ c k = omega arith
 
 module _ (b : Books) where
   long_enough : b.noted.carriers ≤ length b.standings
-  long_enough = omega (arith, (consistent_in b).limits.few_carriers, (kept_out b.kept).standings_long)
+  long_enough = omega (arith, (consistent_in b).limits.few_carriers, (sound_out b.sound).standings_long)
 
   pub worth_bound : (i : ℕ) → i ≤ b.noted.carriers → sum_by worth_served (take i b.standings) ≤ 2 ^ 43
   worth_bound i l =

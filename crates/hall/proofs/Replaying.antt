@@ -4,8 +4,8 @@ use Rattle.std.proofs.lemmas.List.{take_more, take_more_set, take_all, drop-set-
 use Rattle.std.proofs.lemmas.List.Sums.{fold_more}
 use Rattle.refusals.specs.declared.Refusal.{Refusal}
 use Rattle.sources.specs.Meaning.{Meaning, Sound}
-use Rattle.auction.specs.declared.call.Call.{Call}
-use Rattle.auction.specs.declared.call.Answer.{Answer}
+use Rattle.auction.specs.declared.calls.Call.{Call}
+use Rattle.auction.specs.declared.calls.Answer.{Answer}
 use Rattle.auction.specs.Tally.{Tally}
 use Rattle.auction.specs.Calls.{answer_to, tally_by, tally_from, answers_from}
 use Rattle.auction.specs.Reached.{Reached}
@@ -49,7 +49,7 @@ all_performed m s o p h calls i before after l l' t a d =
           ∙ ap (λ z. answers_from m o calls ++ z) (d ∙ ap (λ n. drop n before) e);
       tallied = t';
       started = ap is_some t' ∙ started_from m o calls;
-      lawful = λ first rest e. reached_laws m s (tally_from m o first) (reached_from m o first h);
+      laws_hold = λ first rest e. reached_laws m s (tally_from m o first) (reached_from m o first h);
       made = runs_made m s;
       sequential = settles_alone m s;
     }

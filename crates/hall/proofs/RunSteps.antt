@@ -5,14 +5,14 @@ use Rattle.std.proofs.lemmas.Bool.{and_parts, and_left, both_ways, eqb-true, ne_
 use Rattle.sources.specs.Meaning.{Meaning, Sound, row_of}
 use Rattle.sources.specs.Tables.{heading_of}
 use Rattle.refusals.specs.declared.Refusal.{Refusal}
-use Rattle.auction.specs.declared.standing.Bid.{Bid}
-use Rattle.auction.specs.declared.standing.Counts.{Counts}
-use Rattle.auction.specs.declared.standing.Ending.{Ending}
-use Rattle.auction.specs.declared.standing.Ending.TheVariants.{Done, Spent}
-use Rattle.auction.specs.declared.standing.InFlight.{InFlight}
-use Rattle.auction.specs.declared.standing.Report.{Report}
-use Rattle.auction.specs.declared.standing.Standing.{Standing}
-use Rattle.auction.specs.declared.standing.Standing.TheVariants.{Waiting, Bidding}
+use Rattle.auction.specs.declared.bidding.Bid.{Bid}
+use Rattle.auction.specs.declared.bidding.Counts.{Counts}
+use Rattle.auction.specs.declared.bidding.Ending.{Ending}
+use Rattle.auction.specs.declared.bidding.Ending.TheVariants.{Done, Spent}
+use Rattle.auction.specs.declared.bidding.InFlight.{InFlight}
+use Rattle.auction.specs.declared.bidding.Report.{Report}
+use Rattle.auction.specs.declared.bidding.Standing.{Standing}
+use Rattle.auction.specs.declared.bidding.Standing.TheVariants.{Waiting, Bidding}
 use Rattle.auction.specs.Consistent.{Consistent}
 use Rattle.auction.specs.Rules.{between}
 use Rattle.auction.specs.Standings.{if_waiting, if_bidding}
@@ -28,8 +28,8 @@ use Rattle.rings.specs.Held.{held}
 use Rattle.hall.specs.declared.books.Books.{Books}
 use Rattle.hall.specs.declared.books.queues.Queues.{Queues}
 use Rattle.hall.specs.InBooks.{NotedOf, Between, tally_in, tally_of}
-use Rattle.hall.specs.Ruled.{Ruled}
-use Rattle.hall.specs.RunSteps.{state_of, Became}
+use Rattle.hall.specs.Obeys.{Obeys}
+use Rattle.hall.specs.RunSteps.{state_of, StepMade}
 use Rattle.hall.proofs.Tables.{consistent_in, renoted}
 
 -- ---- a row has no more entries than there are jobs
@@ -50,20 +50,20 @@ same_state r q a b c d = λ i. record { line = a i; flight = b i; tally = c i; s
 -- A step takes the line's first or the flight's first. Between the two, q' are the queues without it.
 module _ (m : Meaning) (depth : ℕ) (old new : Books) (q q' q'' : Queues) where
   pub step_summons : (i : ℕ) → true ≡ (ltb (length (held q.flight)) depth && ltb 0 (length (held q.line))) → held q.line ≡ i ∷ held q'.line → held q'.flight ≡ held q.flight →
-      Became m (λ n. step_by m true (i ∷ held q'.line) (held q'.flight) (tally_in old) n) new q'' → Became m (λ n. one_step m depth (state_of old q n)) new q''
+      StepMade m (λ n. step_by m true (i ∷ held q'.line) (held q'.flight) (tally_in old) n) new q'' → StepMade m (λ n. one_step m depth (state_of old q n)) new q''
   unfolding one_step
   step_summons i test e f b = record {
-    ready = b.ready;
+    noted = b.noted;
     made = λ n. b.made n ∙ ap (λ z. step_by m true (i ∷ held q'.line) z (tally_in old) n) f
         ∙ sym (ap (λ z. step_by m z (held q.line) (held q.flight) (tally_in old) n) (and_parts (ltb (length (held q.flight)) depth) (ltb 0 (length (held q.line))) (sym test)).0
         ∙ ap (λ z. step_by m true z (held q.flight) (tally_in old) n) e);
   }
 
   pub step_first : (f : InFlight) → false ≡ (ltb (length (held q.flight)) depth && ltb 0 (length (held q.line))) → held q.flight ≡ f ∷ held q'.flight → held q'.line ≡ held q.line →
-      Became m (λ n. first_acts m f.carrier f.looks_left (held q'.line) (held q'.flight) (tally_in old) n) new q'' → Became m (λ n. one_step m depth (state_of old q n)) new q''
+      StepMade m (λ n. first_acts m f.carrier f.looks_left (held q'.line) (held q'.flight) (tally_in old) n) new q'' → StepMade m (λ n. one_step m depth (state_of old q n)) new q''
   unfolding one_step
   step_first f test e l b = record {
-    ready = b.ready;
+    noted = b.noted;
     made = λ n. b.made n ∙ ap (λ z. first_acts m f.carrier f.looks_left z (held q'.flight) (tally_in old) n) l
         ∙ sym (ap (λ z. step_by m (ltb (length z) depth) (held q.line) z (tally_in old) n) e
         ∙ acts (held q.line) n (ltb (length (f ∷ held q'.flight)) depth) (ap (λ z. (ltb z depth && ltb 0 (length (held q.line)))) (sym (ap length e)) ∙ sym test));
@@ -114,7 +114,7 @@ none-bids m lanes i _ n = refl
 
 -- ---- many steps
 
-module _ (m : Meaning) (depth : ℕ) (old new : Books) (q q' : Queues) (b : Became m (λ n. one_step m depth (state_of old q n)) new q') where
+module _ (m : Meaning) (depth : ℕ) (old new : Books) (q q' : Queues) (b : StepMade m (λ n. one_step m depth (state_of old q n)) new q') where
   pub steps_on : (budget k : ℕ) (last : RunState) → k < budget → many_steps m depth (budget - k) (state_of old q k) ≡ last →
       many_steps m depth (budget - (k + 1)) (state_of new q' (k + 1)) ≡ last
   unfolding many_steps
@@ -165,7 +165,7 @@ module _ (m : Meaning) (sound : Sound m) (depth budget : ℕ) (old new : Books) 
   report_is : report ≡ run_report (tally_in old) (many_steps m depth budget (beginning m (tally_in old)))
   report_is = ap (λ z. record { steps = steps; counts = z; ending = e }) made-counts ∙ ap (report_of old.counts new.counts steps) (ending_told m new q order e is-end) ∙ ap (run_report (tally_in old)) made
 
-  pub run_ruled : Ruled (run_answer depth budget) (run_tally depth budget) m (Some old) (Some new) (Ok report)
+  pub run_ruled : Obeys (run_answer depth budget) (run_tally depth budget) m (Some old) (Some new) (Ok report)
   unfolding ran
   run_ruled = record {
     answered = ap Ok report_is ∙ sym (cond-true {A = Result Report Refusal} (between 1 128 depth) _ _ in');
@@ -182,7 +182,7 @@ module _ (m : Meaning) (sound : Sound m) (depth budget : ℕ) (old new : Books) 
 
 -- From books that calls lead to, an accepted run is made of summonses, looks and settles.
 pub run_is_made : (m : Meaning) → Sound m → (depth budget : ℕ) (o : Option Books) (old new : Books) (r : Result Report Refusal) → o ≡ Some old → Reached m (tally_of o) →
-    Ruled (run_answer depth budget) (run_tally depth budget) m (Some old) (Some new) r → IfOk r (λ p. Between (λ t u. MadeOf m depth t u p) o (Some new))
+    Obeys (run_answer depth budget) (run_tally depth budget) m (Some old) (Some new) r → IfOk r (λ p. Between (λ t u. MadeOf m depth t u p) o (Some new))
 run_is_made m sound depth budget o old new (Ok p) found reached ruled = record {
   before = tally_in old;
   after = tally_in new;

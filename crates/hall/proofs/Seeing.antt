@@ -5,9 +5,9 @@ use Rattle.std.specs.Int.{int_max, int_min}
 use borrow.Author.Differences.{up, ints, lt-true, lt-false}
 use Rattle.std.proofs.lemmas.Int.{clamps}
 use Rattle.std.proofs.lemmas.Bool.{both_ways, eqb-true, eq-eqb, le-ltb, cases_Bool, cond-true, cond-false}
-use Rattle.auction.specs.declared.standing.Best.{Best}
-use Rattle.auction.specs.declared.standing.Bid.{Bid}
-use Rattle.auction.specs.Bids.{natural, beats, fresh, ranked, weighed, weighed_at, looked_on}
+use Rattle.auction.specs.declared.bidding.Best.{Best}
+use Rattle.auction.specs.declared.bidding.Bid.{Bid}
+use Rattle.auction.specs.Bids.{natural, beats, new_bid, ranked, weighed, weighed_at, looked_on}
 use Rattle.std.proofs.lemmas.List.{take_min, get_or-drop}
 use Rattle.std.proofs.lemmas.List.Sums.{fold_more}
 use Rattle.auction.proofs.Nets.{natural-up, beats-true, beats-false, sides, better, no_better, still_no_better}
@@ -200,25 +200,25 @@ unfolding weighed
 merged_fold ps b s [] = refl
 merged_fold ps b s (e ∷ es) = ap (λ z. fold (weighed ps) z es) (merged_weighed (get_or ps e.0 0) b s e) ∙ merged_fold ps b (weighed ps s e) es
 
-merged_fresh : (b : Bid) → merged b fresh ≡ b
-merged_fresh b = let e : b.looked + 0 ≡ b.looked = omega arith in let r : max b.runner_up 0 ≡ b.runner_up = omega arith in λ i. bid (e i) b.best (r i)
+merged_new_bid : (b : Bid) → merged b new_bid ≡ b
+merged_new_bid b = let e : b.looked + 0 ≡ b.looked = omega arith in let r : max b.runner_up 0 ≡ b.runner_up = omega arith in λ i. bid (e i) b.best (r i)
 
 -- What a look comes to: its entries among themselves, beside the bid that it began with.
-pub look_merged : (lanes count : ℕ) (ps : List ℕ) (row : List (ℕ × ℕ)) (b s : Bid) → count ≡ min lanes (length row - b.looked) → s ≡ fold (weighed ps) fresh (take count (drop b.looked row)) →
+pub look_merged : (lanes count : ℕ) (ps : List ℕ) (row : List (ℕ × ℕ)) (b s : Bid) → count ≡ min lanes (length row - b.looked) → s ≡ fold (weighed ps) new_bid (take count (drop b.looked row)) →
     merged b s ≡ looked_on lanes ps row b
 look_merged lanes count ps row b s n e =
-    ap (merged b) e ∙ sym (merged_fold ps b fresh (take count (drop b.looked row)))
-    ∙ ap (λ z. fold (weighed ps) z (take count (drop b.looked row))) (merged_fresh b)
+    ap (merged b) e ∙ sym (merged_fold ps b new_bid (take count (drop b.looked row)))
+    ∙ ap (λ z. fold (weighed ps) z (take count (drop b.looked row))) (merged_new_bid b)
     ∙ ap (fold (weighed ps) b) (ap (λ k. take k (drop b.looked row)) (n ∙ ap (min lanes) (sym (length-drop b.looked row))) ∙ take_min lanes (drop b.looked row))
 
 -- One more entry of the row.
 pub seen_more : (ps : List ℕ) (row : List (ℕ × ℕ)) (from place k : ℕ) (s : Bid) (e : ℕ × ℕ) → from ≤ place → k ≡ place - from → place < length row → e ≡ get_or row place (0, 0) →
-    s ≡ fold (weighed ps) fresh (take k (drop from row)) → weighed ps s e ≡ fold (weighed ps) fresh (take (k + 1) (drop from row))
+    s ≡ fold (weighed ps) new_bid (take k (drop from row)) → weighed ps s e ≡ fold (weighed ps) new_bid (take (k + 1) (drop from row))
 seen_more ps row from place k s e l m inside is before =
     let at : from + k ≡ place = omega arith in
     ap (λ z. weighed ps z e) before
-    ∙ ap (weighed ps (fold (weighed ps) fresh (take k (drop from row)))) (is ∙ ap (λ j. get_or row j (0, 0)) (sym at) ∙ sym (get_or-drop from row k (0, 0)))
-    ∙ sym (fold_more (weighed ps) fresh (drop from row) k (0, 0) (omega (arith, length-drop from row)))
+    ∙ ap (weighed ps (fold (weighed ps) new_bid (take k (drop from row)))) (is ∙ ap (λ j. get_or row j (0, 0)) (sym at) ∙ sym (get_or-drop from row k (0, 0)))
+    ∙ sym (fold_more (weighed ps) new_bid (drop from row) k (0, 0) (omega (arith, length-drop from row)))
 
 -- The better of two bests, number by number.
 module _ (b : Bid) (n : ℕ) (net : ℤ) (job worth : ℕ) (r : ℤ) (old : Best) (has : b.best ≡ Some old) (some : eqb worth 0 ≡ false) where

@@ -4,28 +4,28 @@ use lib.Signed.{lt_z}
 use Rattle.std.proofs.lemmas.List.{length-set, get_or-take, set_comm, set-get_or}
 use Rattle.std.proofs.lemmas.Bool.{cond_both, both_ways}
 use Rattle.sources.specs.Meaning.{Meaning, row_of}
-use Rattle.auction.specs.declared.standing.Best.{Best}
-use Rattle.auction.specs.declared.standing.Bid.{Bid}
-use Rattle.auction.specs.declared.standing.Award.{Award}
-use Rattle.auction.specs.declared.standing.Counts.{Counts}
-use Rattle.auction.specs.declared.standing.Act.TheVariants.{Settle}
-use Rattle.auction.specs.declared.standing.Standing.{Standing}
-use Rattle.auction.specs.declared.standing.Standing.TheVariants.{Waiting, Bidding, Served, Out}
-use Rattle.auction.specs.declared.standing.Verdict.{Verdict}
-use Rattle.auction.specs.declared.standing.Verdict.TheVariants.{Out as GoesOut, Stale, Awarded}
+use Rattle.auction.specs.declared.bidding.Best.{Best}
+use Rattle.auction.specs.declared.bidding.Bid.{Bid}
+use Rattle.auction.specs.declared.bidding.Award.{Award}
+use Rattle.auction.specs.declared.bidding.Counts.{Counts}
+use Rattle.auction.specs.declared.bidding.Act.TheVariants.{Settle}
+use Rattle.auction.specs.declared.bidding.Standing.{Standing}
+use Rattle.auction.specs.declared.bidding.Standing.TheVariants.{Waiting, Bidding, Served, Out}
+use Rattle.auction.specs.declared.bidding.Verdict.{Verdict}
+use Rattle.auction.specs.declared.bidding.Verdict.TheVariants.{Out as GoesOut, Stale, Awarded}
 use Rattle.auction.specs.Standings.{holds_job, BidSound, StandingSound}
 use Rattle.auction.specs.Tally.{holder_at, standing_at, is_holder}
 use Rattle.auction.specs.Bids.{offer, judged_best, judged, best_worth}
 use Rattle.auction.specs.Consistent.{Consistent}
-use Rattle.auction.specs.Rules.{bid_at, taken, stands, bids, called, freed, carried_out, verdict_in, verdict_from, ended, settle_answer, settle_tally}
+use Rattle.auction.specs.Rules.{bid_at, if_accepted, with_standing, bids, called, freed, carried_out, verdict_in, verdict_from, ended, settle_answer, settle_tally}
 use Rattle.auction.proofs.Matching.{holder_is, length-freed, holder_known}
 use Rattle.auction.proofs.Keeping.{ended_consistent, settle_stands}
 use Rattle.hall.specs.declared.books.Books.{Books}
-use Rattle.hall.specs.Kept.{Kept, tally_held}
+use Rattle.hall.specs.BooksSound.{BooksSound, tally_held}
 use Rattle.hall.specs.InBooks.{NotedOf, tally_in}
 use Rattle.hall.specs.Steps.{standing_ended, counts_ended}
-use Rattle.hall.proofs.Keeps.{kept_out, kept_by}
-use Rattle.hall.proofs.Tables.{same_tally, take_set_any, take-freed, consistent_in, few_places, standing_in, stands_in}
+use Rattle.hall.proofs.Keeps.{sound_out, sound_by}
+use Rattle.hall.proofs.Tables.{same_tally, take_set_any, take-freed, consistent_in, few_places, standing_in, with_standing_in}
 use Rattle.hall.proofs.Calling.{bid_known, bid_given}
 
 -- ---- the verdict
@@ -96,18 +96,18 @@ module _ (b : Books) (i : ℕ) (x : Bid) (known : i < b.noted.carriers) (bidding
       -- Nothing is awarded.
       module _ (none : (a : Award) → v ≡ Awarded a → ⊥) where
         pub none_in : tally_held b.noted b.step b.lanes b.prices b.holders (set b.standings i s) n ≡ ended i x (tally_in b)
-        none_in = stands_in b i s n ∙ each v refl
+        none_in = with_standing_in b i s n ∙ each v refl
           where
-            each : (w : Verdict) → v ≡ w → stands i s n (tally_in b) ≡ ended i x (tally_in b)
+            each : (w : Verdict) → v ≡ w → with_standing i s n (tally_in b) ≡ ended i x (tally_in b)
             each (Awarded a) e = absurd (none a e)
             each w e =
-                ap (λ z. stands i z n (tally_in b)) (stood ∙ ap (standing_ended worth) e)
-                ∙ ap (λ z. stands i (standing_ended worth w) z (tally_in b)) (numbered ∙ ap (counts_ended b.counts) e) ∙ ended_by w e
+                ap (λ z. with_standing i z n (tally_in b)) (stood ∙ ap (standing_ended worth) e)
+                ∙ ap (λ z. with_standing i (standing_ended worth w) z (tally_in b)) (numbered ∙ ap (counts_ended b.counts) e) ∙ ended_by w e
 
-        pub none_keeps : Kept b.noted b.step b.lanes b.prices b.holders (set b.standings i s) n
+        pub none_keeps : BooksSound b.noted b.step b.lanes b.prices b.holders (set b.standings i s) n
         none_keeps =
-            let k = kept_out b.kept in
-            kept_by (ended i x (tally_in b)) k.prices_long k.holders_long (length-set b.standings i s ∙ k.standings_long) none_in consistent_after
+            let k = sound_out b.sound in
+            sound_by (ended i x (tally_in b)) k.prices_long k.holders_long (length-set b.standings i s ∙ k.standings_long) none_in consistent_after
 
       module _ (a : Award) (e : v ≡ Awarded a) where
         won_here : (a.job < b.noted.jobs) × (holder_at (tally_in b) a.job ≡ a.displaced)
@@ -140,10 +140,10 @@ module _ (b : Books) (i : ℕ) (x : Bid) (known : i < b.noted.carriers) (bidding
             ∙ ap (λ zs. set zs i mine) (take-freed b.noted.carriers b.standings a.displaced))
             (numbered ∙ ap (counts_ended b.counts) e) ∙ ended_by (Awarded a) e
 
-        pub award_keeps : (ss : List Standing) → ss ≡ freed (set b.standings i s) a.displaced → Kept b.noted b.step b.lanes (set b.prices a.job a.price) (set b.holders a.job (Some i)) ss n
+        pub award_keeps : (ss : List Standing) → ss ≡ freed (set b.standings i s) a.displaced → BooksSound b.noted b.step b.lanes (set b.prices a.job a.price) (set b.holders a.job (Some i)) ss n
         award_keeps ss f =
-            let k = kept_out b.kept in
-            kept_by (ended i x (tally_in b)) (length-set b.prices a.job a.price ∙ k.prices_long) (length-set b.holders a.job (Some i) ∙ k.holders_long)
+            let k = sound_out b.sound in
+            sound_by (ended i x (tally_in b)) (length-set b.prices a.job a.price ∙ k.prices_long) (length-set b.holders a.job (Some i) ∙ k.holders_long)
             (ap length f ∙ length-freed (set b.standings i s) a.displaced ∙ length-set b.standings i s ∙ k.standings_long) (award_in ss f) consistent_after
 
 -- ---- settle, whole
@@ -161,7 +161,7 @@ module _ (m : Meaning) (i : ℕ) (x : Bid) (old new : Books) (noted : NotedOf m 
       (ap (set (tally_in old).standings i) (sym stood) ∙ set-get_or (tally_in old).standings i Out) refl
 
   found : tally_in new ≡ tally_in old
-  found = tallied ∙ ap (λ r. taken r (bids Settle i) (tally_in old)) (sym answer) ∙ unchanged
+  found = tallied ∙ ap (λ r. if_accepted r (bids Settle i) (tally_in old)) (sym answer) ∙ unchanged
 
   pub settles_known : i < new.noted.carriers
   settles_known = omega (arith, bid_known m i Settle old noted x answer, ap (λ h. h.carriers) same)
@@ -173,4 +173,4 @@ module _ (m : Meaning) (i : ℕ) (x : Bid) (old new : Books) (noted : NotedOf m 
   settled_answer v e = ap Ok (e ∙ ap (λ t. verdict_in t x) found) ∙ ap (verdict_from (tally_in old)) answer
 
   pub settled_tally : (last : Books) → tally_in last ≡ ended i x (tally_in new) → Some (tally_in last) ≡ settle_tally i m (Some (tally_in old))
-  settled_tally last e = ap Some (e ∙ ap (ended i x) found) ∙ ap (λ r. Some (taken r (ended i) (tally_in old))) answer
+  settled_tally last e = ap Some (e ∙ ap (ended i x) found) ∙ ap (λ r. Some (if_accepted r (ended i) (tally_in old))) answer

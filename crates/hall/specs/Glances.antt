@@ -1,7 +1,7 @@
 -- What a glance is after one more entry, and when the best that it began with is the best after it.
 use Rattle.std.specs.Prelude.{ℕ, ◌+◌, ◌-◌, ◌%◌, ◌^◌, Bool, false, cond, ◌&&◌, ◌||◌, ℤ, pos, List, Some, None, Option, int_lt, nat_lt, slice_index}
 use Rattle.std.specs.Int.{int_max, cast_signed, w64}
-use Rattle.auction.specs.declared.standing.Best.{Best}
+use Rattle.auction.specs.declared.bidding.Best.{Best}
 use Rattle.auction.specs.Bids.{natural}
 use Rattle.hall.specs.declared.books.glance.Glance.{Glance}
 

@@ -5,7 +5,7 @@ use Rattle.sources.specs.Meaning.{Meaning}
 use Rattle.sources.specs.Tables.{heading_of}
 use Rattle.auction.specs.Tally.{Tally}
 use Rattle.hall.specs.declared.books.Books.{Books}
-use Rattle.hall.specs.Kept.{tally_held}
+use Rattle.hall.specs.BooksSound.{tally_held}
 
 -- What start noted is what the source means.
 abbrev pub NotedOf : Meaning → Books → Type 0

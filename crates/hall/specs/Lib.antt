@@ -1,6 +1,6 @@
-pub mod Kept
+pub mod BooksSound
 pub mod InBooks
-pub mod Ruled
+pub mod Obeys
 pub mod Steps
 pub mod RunSteps
 pub mod Replayed

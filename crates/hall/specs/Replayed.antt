@@ -2,11 +2,11 @@
 use Rattle.std.specs.Prelude.{◌≡◌, ◌||◌, List, ◌++◌, length, drop, is_some, None, Option, Result}
 use Rattle.sources.specs.Meaning.{Meaning}
 use Rattle.refusals.specs.declared.Refusal.{Refusal}
-use Rattle.auction.specs.declared.call.Call.{Call}
-use Rattle.auction.specs.declared.call.Answer.{Answer}
+use Rattle.auction.specs.declared.calls.Call.{Call}
+use Rattle.auction.specs.declared.calls.Answer.{Answer}
 use Rattle.auction.specs.Tally.{Tally}
 use Rattle.auction.specs.Calls.{tally_from, answers_from, has_start}
-use Rattle.auction.specs.Reached.{Lawful}
+use Rattle.auction.specs.Reached.{LawsHold}
 use Rattle.auction.specs.MadeOf.{RunsMade}
 use Rattle.auction.specs.Sequential.{SettlesAlone}
 use Rattle.hall.specs.declared.books.Books.{Books}
@@ -19,7 +19,7 @@ pub record Performed (m : Meaning) (calls : List Call) (before after : List (Res
   -- It is started exactly if it was before, or a start of the list was accepted.
   pub started : is_some new ≡ (is_some old || has_start m calls)
   -- The laws hold after every first part of the list too, so that each of its questions is answered from a tally of which they hold.
-  pub lawful : (first rest : List Call) → calls ≡ first ++ rest → Lawful m (tally_from m old first)
+  pub laws_hold : (first rest : List Call) → calls ≡ first ++ rest → LawsHold m (tally_from m old first)
   -- Each run, of this list or another, is made of summonses, looks and settles that are accepted.
   pub made : RunsMade m
   -- A bid that no award came between is settled as in the sequential auction, and so is never stale. Said of any list of calls, so also of one in which the acts of a run stand in its place.

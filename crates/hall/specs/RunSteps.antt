@@ -11,6 +11,6 @@ abbrev pub state_of : Books → Queues → ℕ → RunState
 state_of b q n = record { line = held q.line; flight = held q.flight; tally = tally_in b; steps = n }
 
 -- The books after are those of a start for the source, and with the queues they hold what the rule makes, after one step more.
-pub record Became (m : Meaning) (rule : ℕ → RunState) (new : Books) (q : Queues) : Type 0 where
-  pub ready : NotedOf m new
+pub record StepMade (m : Meaning) (rule : ℕ → RunState) (new : Books) (q : Queues) : Type 0 where
+  pub noted : NotedOf m new
   pub made : (n : ℕ) → state_of new q (n + 1) ≡ rule n

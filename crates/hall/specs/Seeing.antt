@@ -1,7 +1,7 @@
 -- What the entries of a look come to among themselves, and beside the bid so far.
 use Rattle.std.specs.Prelude.{ℕ, ◌+◌, ◌-◌, ◌^◌, max, cond, ℤ, negsuc, ◌==◌, Some, None, Option}
-use Rattle.auction.specs.declared.standing.Best.{Best}
-use Rattle.auction.specs.declared.standing.Bid.{Bid}
+use Rattle.auction.specs.declared.bidding.Best.{Best}
+use Rattle.auction.specs.declared.bidding.Bid.{Bid}
 use Rattle.auction.specs.Bids.{beats, natural}
 
 -- The least number of 64 bits with a sign.

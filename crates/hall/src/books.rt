@@ -1,9 +1,8 @@
 //! The hall's books.
-ghost use Rattle.hall.specs.Kept.{Kept};
+ghost use Rattle.hall.specs.BooksSound.{BooksSound};
 
-use auction::standing::{Counts, Standing};
-use sources::checks::{MOST_CARRIERS, MOST_JOBS};
-use sources::form::Heading;
+use auction::{Counts, Standing};
+use sources::{Heading, MOST_CARRIERS, MOST_JOBS};
 
 pub(crate) mod calls;
 mod glance;
@@ -24,5 +23,5 @@ pub struct Books {
     holders: [Option<usize>; MOST_JOBS],
     standings: [Standing; MOST_CARRIERS],
     counts: Counts,
-    ghost kept: { ∥ Kept noted step lanes prices holders standings counts ∥₁ },
+    ghost sound: { ∥ BooksSound noted step lanes prices holders standings counts ∥₁ },
 }

@@ -2,6 +2,9 @@
 #![tactic(auto)]
 
 pub mod books;
-pub mod hall;
-pub mod replay;
-mod weighing;
+mod call_lists;
+mod halls;
+mod ranking;
+
+pub use call_lists::replay;
+pub use halls::Hall;

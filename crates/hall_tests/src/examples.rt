@@ -1,11 +1,9 @@
 //! Auctions call by call.
 use crate::sheets::{bid, hall_of, table_hall, won};
-use auction::standing::{Best, Bid, Standing, Verdict};
-use hall::hall::Hall;
+use auction::{Best, Bid, Standing, Verdict};
+use hall::Hall;
 use refusals::Refusal;
-use sources::floor::Floor;
-use sources::form::{Entry, Heading};
-use sources::sheet::Sheet;
+use sources::{Entry, Floor, Heading, Sheet};
 use std::test::Fail;
 
 // A negative other net counts as 0: the bid is worth + step, and not more.

@@ -1,8 +1,7 @@
 //! A source of somebody else's: it answers the five questions, and writes no more.
 use crate::sheets::table_sheet;
-use hall::hall::Hall;
-use sources::source::Source;
-use sources::times::Times;
+use hall::Hall;
+use sources::{Source, Times};
 use std::test::Fail;
 
 // Tells what the source below it tells.

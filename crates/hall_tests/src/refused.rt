@@ -1,12 +1,9 @@
 //! Every refusal of every call, in checking order.
 use crate::sheets::{bid, hall_of, table_hall, won};
-use auction::standing::Verdict;
-use hall::hall::Hall;
+use auction::Verdict;
+use hall::Hall;
 use refusals::Refusal;
-use sources::form::Entry;
-use sources::place::Place;
-use sources::positions::Positions;
-use sources::sheet::Sheet;
+use sources::{Entry, Place, Positions, Sheet};
 use std::test::Fail;
 
 #[test]

@@ -1,5 +1,5 @@
 //! Rings of carrier numbers, and of carriers with the looks that they have left.
-use auction::standing::InFlight;
+use auction::InFlight;
 use refusals::Refusal;
 use rings::Ring;
 use rings::moves::{Move, Outcome};

@@ -1,9 +1,8 @@
 //! Runs and questions.
 use crate::sheets::{hall_of, table_hall};
-use auction::call::{Answer, Call};
-use auction::standing::{Best, Bid, Counts, Ending, Report, Standing};
+use auction::{Answer, Best, Bid, Call, Counts, Ending, Report, Standing};
 use refusals::Refusal;
-use sources::form::Entry;
+use sources::Entry;
 use std::test::Fail;
 
 // What carrier 2 finds in its row while every price is 0.

@@ -1,10 +1,8 @@
 //! Sheets that the tests share, and the steps of a bid on them.
-use auction::standing::{Award, Verdict};
-use hall::hall::Hall;
+use auction::{Award, Verdict};
+use hall::Hall;
 use refusals::Refusal;
-use sources::form::{Entry, Heading};
-use sources::sheet::Sheet;
-use sources::source::Source;
+use sources::{Entry, Heading, Sheet, Source};
 use three_by_three::{ENTRIES, HEADING, STARTS};
 
 // A sheet. One that cannot be filled stays empty, and a hall over it cannot be started.

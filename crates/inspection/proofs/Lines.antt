@@ -3,7 +3,7 @@ use Rattle.std.proofs.Common.{◌≡◌, ℕ, suc, ◌+◌, ◌*◌, ◌<◌, �
 use Rattle.std.proofs.lemmas.List.{append_assoc, append-nil, length-take-le, take_more}
 use Rattle.std.proofs.ByRecursion.{All-from_get_or, All-take}
 use Rattle.std.specs.List.{AllByRecursion}
-use Rattle.sources.specs.declared.form.Heading.{Heading}
+use Rattle.sources.specs.declared.records.Heading.{Heading}
 use Rattle.sources.specs.Meaning.{Meaning, Sound}
 use Rattle.sources.specs.Sheets.{blank, within_limits}
 use Rattle.sources.proofs.Reading.{row_length}

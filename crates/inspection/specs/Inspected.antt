@@ -11,9 +11,9 @@ use Rattle.sheetfile.specs.Writing.{written}
 use Rattle.inspection.specs.Listing.{refused_line, sheet_text}
 
 -- What is printed tells what so many bytes come to: its text, and the fault.
-abbrev pub Tells : Printed Fault → ℕ → Result Meaning Fault → Type 0
-Tells p size (Ok m) = (string_bytes p.text ≡ sheet_text m size) × (p.refused ≡ None)
-Tells p size (Err f) = (string_bytes p.text ≡ refused_line f) × (p.refused ≡ Some f)
+abbrev pub TellsListing : Printed Fault → ℕ → Result Meaning Fault → Type 0
+TellsListing p size (Ok m) = (string_bytes p.text ≡ sheet_text m size) × (p.refused ≡ None)
+TellsListing p size (Err f) = (string_bytes p.text ≡ refused_line f) × (p.refused ≡ Some f)
 
 -- If nothing is refused, the bytes are the file of the sheet that is listed, and what is written of that sheet are these bytes.
 abbrev pub TellsFile : Printed Fault → List ℕ → Type 0

@@ -2,29 +2,26 @@
 #![tactic(auto)]
 
 ghost use Rattle.std.specs.Prelude.{◌≡◌, ◌++◌, length, IfOk, OnOk, string_bytes};
-ghost use Rattle.inspection.specs.Inspected.{Lists, Tells, TellsFile};
+ghost use Rattle.inspection.specs.Inspected.{Lists, TellsListing, TellsFile};
 ghost use Rattle.sheetfile.specs.Reading.{loaded, loaded_within};
 ghost use Rattle.inspection.specs.Listing.{row_line, sheet_text};
 ghost use Rattle.sources.specs.Meaning.{row_of};
 ghost use Rattle.sources.specs.OfSheet.{sheet_meaning};
 
 use refusals::{Fault, Refusal};
-use sheetfile::whole::{MOST_STARTS, load, sheet_over};
-use sources::asking::{entries, heading_of, row_length};
-use sources::form::{Entry, Heading};
-use sources::sheet::Sheet;
-use sources::source::Source;
+use sheetfile::{MOST_STARTS, load, sheet_over};
+use sources::{Entry, Heading, Sheet, Source, entries, heading_of, row_length};
 use std::alloc::{AllocError, Global};
 use texts::{Failure, Printed};
 
 // The most bytes that are inspected, and the most entries of a sheet that is.
-pub use sheetfile::whole::{MOST_BYTES, MOST_ENTRIES};
+pub use sheetfile::{MOST_BYTES, MOST_ENTRIES};
 
 /// Loads some bytes as a sheet file, and lists what it holds. Written again it would be the same bytes, as the text says:
 /// that is proved, so it is not tried. More than 32,768 bytes are refused before any is read. It fails only for want of
 /// memory.
 pub fn inspect_sheet(heap: Global, bytes: &[u8]) -> Result<Printed<Fault>, AllocError>
-    ensures told { IfOk result (λ p. Tells p (length bytes.now) (loaded_within bytes.now)) }
+    ensures told { IfOk result (λ p. TellsListing p (length bytes.now) (loaded_within bytes.now)) }
     ensures file { IfOk result (λ p. TellsFile p bytes.now) }
 {
     Printed::telling(heap, "refused ", listed(heap, bytes))

@@ -28,7 +28,7 @@ impl<'a> Output<'a> {
     pub fn put(&mut self, piece: &[u8])
         ensures puts { Puts self.old self.new piece.now }
         ensures count { self.new.count ≡ min (self.old.count + length piece.now) usize.MAX }
-        ensures kept { length self.old.bytes.now < self.old.count + length piece.now → self.new.bytes.now ≡ self.old.bytes.now }
+        ensures no_room { length self.old.bytes.now < self.old.count + length piece.now → self.new.bytes.now ≡ self.old.bytes.now }
     {
         let Output { bytes, count } = self;
         let next = count.saturating_add(piece.len());

@@ -1,8 +1,8 @@
 #![tactic(auto)]
 
 use anyhow::ensure;
-use pairing::{MOST_TEXT, Printed, print_pairs};
-use sheetfile::whole::MOST_BYTES;
+use pairing::{MOST_TEXT, PrintedPairs, print_pairs};
+use sheetfile::MOST_BYTES;
 use std::io::{Read, Write};
 
 // Reads a sheet file from standard input to its end, pairs its carriers and jobs, and prints the listing. A refusal is
@@ -13,7 +13,7 @@ fn main(rt: HostRuntime) -> anyhow::Result<()> {
         .take(MOST_BYTES as u64 + 1)
         .read_to_end(&mut sheet)?;
     let mut text = [0u8; MOST_TEXT];
-    let Printed { len, refusal } = print_pairs(&sheet, &mut text);
+    let PrintedPairs { len, refusal } = print_pairs(&sheet, &mut text);
     rt.stdout().write_all(&text[0..len])?;
     ensure!(refusal.is_none(), "refused");
     Ok(())

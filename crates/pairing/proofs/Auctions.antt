@@ -17,20 +17,20 @@ use Rattle.sources.proofs.Reading.{row_within}
 use Rattle.sources.specs.Laws.LayersSound.{times_sound}
 use Rattle.sources.specs.Layers.{scaled, times_of}
 use Rattle.sources.proofs.Worths.{worth_times}
-use Rattle.auction.specs.declared.call.Answer.{Answer}
-use Rattle.auction.specs.declared.standing.Bid.{Bid}
-use Rattle.auction.specs.declared.standing.Counts.{Counts}
-use Rattle.auction.specs.declared.standing.Standing.{Standing}
-use Rattle.auction.specs.declared.standing.Standing.TheVariants.{Out}
-use Rattle.auction.specs.declared.standing.Verdict.{Verdict}
-use Rattle.auction.specs.declared.standing.Verdict.TheVariants.{Out as GoesOut, Stale, Awarded}
+use Rattle.auction.specs.declared.calls.Answer.{Answer}
+use Rattle.auction.specs.declared.bidding.Bid.{Bid}
+use Rattle.auction.specs.declared.bidding.Counts.{Counts}
+use Rattle.auction.specs.declared.bidding.Standing.{Standing}
+use Rattle.auction.specs.declared.bidding.Standing.TheVariants.{Out}
+use Rattle.auction.specs.declared.bidding.Verdict.{Verdict}
+use Rattle.auction.specs.declared.bidding.Verdict.TheVariants.{Out as GoesOut, Stale, Awarded}
 use Rattle.auction.specs.Standings.{ServedOrOut, job_served}
 use Rattle.auction.specs.Tally.{Tally, standing_at}
 use Rattle.auction.specs.Bids.{best_worth}
-use Rattle.auction.specs.Rules.{between, bid_at, bids, carried_out, ended, opened, start_answer, start_tally_by, taken, verdict_in}
-use Rattle.auction.specs.declared.standing.Act.TheVariants.{Settle}
+use Rattle.auction.specs.Rules.{between, bid_at, bids, carried_out, ended, tally_at_start, start_answer, start_tally_by, if_accepted, verdict_in}
+use Rattle.auction.specs.declared.bidding.Act.TheVariants.{Settle}
 use Rattle.auction.specs.Runs.{beginning, ran}
-use Rattle.auction.specs.Calls.{accepted, answer_to, counts_answer, standing_answer, tally_after, tally_by, tally_from, told}
+use Rattle.auction.specs.Calls.{accepted, answer_to, counts_answer, standing_answer, tally_after, tally_by, tally_from, as_answer}
 use Rattle.auction.specs.Laws.{AuctionLaws}
 use Rattle.auction.proofs.Steps.{steps_hold}
 use Rattle.auction.proofs.Reaching.{reached_laws}
@@ -46,9 +46,9 @@ use Rattle.pairing.specs.Pairs.{Ends, ListsFile, ListsPairs, PairsWell, auctione
 
 -- ---- the step stays
 
-taken_step : (n : ℕ) (f : Bid → Tally → Tally) (t : Tally) → ((b : Bid) → (f b t).step ≡ n) → t.step ≡ n → (r : Result Bid Refusal) → (taken r f t).step ≡ n
-taken_step n f t h e (Ok b) = h b
-taken_step n f t h e (Err x) = e
+if_accepted_step : (n : ℕ) (f : Bid → Tally → Tally) (t : Tally) → ((b : Bid) → (f b t).step ≡ n) → t.step ≡ n → (r : Result Bid Refusal) → (if_accepted r f t).step ≡ n
+if_accepted_step n f t h e (Ok b) = h b
+if_accepted_step n f t h e (Err x) = e
 
 out_step : (i w : ℕ) (v : Verdict) (t : Tally) → (carried_out i w v t).step ≡ t.step
 out_step i w GoesOut t = refl
@@ -59,12 +59,12 @@ ran_step : (m : Meaning) (n depth budget : ℕ) (t : Tally) → t.step ≡ n →
 unfolding ran beginning
 ran_step m n depth budget t e =
     cond_both {A = Tally} (between 1 128 depth) _ _ (λ u. u.step ≡ n)
-    (λ _. steps_hold m (λ u. u.step ≡ n) (λ u i act h. taken_step n (bids act i) u (λ b. h) h (bid_at m i act u)) (λ u i h. taken_step n (ended i) u (λ b. out_step i (best_worth b.best) (verdict_in u b) u ∙ h) h (bid_at m i Settle u)) depth budget (beginning m t) e)
+    (λ _. steps_hold m (λ u. u.step ≡ n) (λ u i act h. if_accepted_step n (bids act i) u (λ b. h) h (bid_at m i act u)) (λ u i h. if_accepted_step n (ended i) u (λ b. out_step i (best_worth b.best) (verdict_in u b) u ∙ h) h (bid_at m i Settle u)) depth budget (beginning m t) e)
     (λ _. e)
 
-opened_step : (carriers jobs step lanes : ℕ) → (opened carriers jobs step lanes).step ≡ step
-unfolding opened
-opened_step carriers jobs step lanes = refl
+at_start_step : (carriers jobs step lanes : ℕ) → (tally_at_start carriers jobs step lanes).step ≡ step
+unfolding tally_at_start
+at_start_step carriers jobs step lanes = refl
 
 -- ---- the start is refused only because of the counts
 
@@ -76,13 +76,13 @@ start_is m = (_, refl)
 
 -- The start's answer, whatever it depends on, and what follows from it.
 module _ (f : Tally → Tally) (new : Tally) where
-  refused_none : (b : Bool) (r : Result (Unit {0}) Refusal) (e : Refusal) → r ≡ start_by b → told accepted r ≡ Err e → (e ≡ CountsOutside) × (option_map f (start_tally_by r new None) ≡ None)
+  refused_none : (b : Bool) (r : Result (Unit {0}) Refusal) (e : Refusal) → r ≡ start_by b → as_answer accepted r ≡ Err e → (e ≡ CountsOutside) × (option_map f (start_tally_by r new None) ≡ None)
   refused_none true (Ok x) e by is = absurd (let z : ◌≡◌ {A = ℕ} 0 1 = cc in omega arith)
   refused_none true (Err d) e by is = absurd (let z : ◌≡◌ {A = ℕ} 0 1 = cc in omega arith)
   refused_none false (Ok x) e by is = absurd (let z : ◌≡◌ {A = ℕ} 0 1 = cc in omega arith)
   refused_none false (Err d) e by is = (cc, refl)
 
-  accepted_some : (r : Result (Unit {0}) Refusal) (a : Answer) → told accepted r ≡ Ok a → (t : Tally) × (option_map f (start_tally_by r new None) ≡ Some t)
+  accepted_some : (r : Result (Unit {0}) Refusal) (a : Answer) → as_answer accepted r ≡ Ok a → (t : Tally) × (option_map f (start_tally_by r new None) ≡ Some t)
   accepted_some (Ok x) a is = (f new, refl)
   accepted_some (Err e) a is = absurd (let z : ◌≡◌ {A = ℕ} 0 1 = cc in omega arith)
 
@@ -92,7 +92,7 @@ module _ (f : Tally → Tally) (new : Tally) where
 
 -- the tally that the start makes, and the run on it
 abbrev begun : Meaning → Tally
-begun m = opened m.carriers m.jobs 1 8
+begun m = tally_at_start m.carriers m.jobs 1 8
 
 abbrev running : Meaning → Tally → Tally
 running m = ran (timed m) 8 1000000
@@ -148,7 +148,7 @@ auction_laws m sound t e = reached_laws (timed m) (times_sound (m.carriers + 1) 
 pairs_well : (m : Meaning) → Sound m → PairsWell m
 pairs_well m sound t e =
     let law = auction_laws m sound t e in
-    let one : t.step ≡ 1 = some_step (running m) (begun m) (start_answer 1 8 (timed m)) t (ran_step (timed m) 1 8 1000000 (begun m) (opened_step m.carriers m.jobs 1 8)) (sym (auction_is m) ∙ e) in
+    let one : t.step ≡ 1 = some_step (running m) (begun m) (start_answer 1 8 (timed m)) t (ran_step (timed m) 1 8 1000000 (begun m) (at_start_step m.carriers m.jobs 1 8)) (sym (auction_is m) ∙ e) in
     let above : m.carriers * t.step < m.carriers + 1 = rw one (omega arith) in
     record {
       own = record {
@@ -206,9 +206,9 @@ module _ (m : Meaning) (sound : Sound m) (n : ℕ) (is : n ≡ m.carriers) (befo
   unfolding auctioned
   tally_is = r.tallied ∙ ap (λ k. tally_after (times_of (k + 1) m) two_calls) is
 
-  first_is : (d : Result Answer Refusal) → get_or after 0 d ≡ told accepted (start_answer 1 8 (timed m))
+  first_is : (d : Result Answer Refusal) → get_or after 0 d ≡ as_answer accepted (start_answer 1 8 (timed m))
   unfolding answer_to
-  first_is d = ap (λ (answers : List (Result Answer Refusal)). get_or answers 0 d) r.answered ∙ ap (λ k. told accepted (start_answer 1 8 (times_of (k + 1) m))) is
+  first_is d = ap (λ (answers : List (Result Answer Refusal)). get_or answers 0 d) r.answered ∙ ap (λ k. as_answer accepted (start_answer 1 8 (times_of (k + 1) m))) is
 
   pub standings_long : (t : Tally) → auctioned m ≡ Some t → length t.standings ≡ n
   standings_long t e = sym (length-map t.standings job_served) ∙ (auction_laws m sound t e).own.sized ∙ sym is

@@ -5,8 +5,8 @@ use Rattle.std.proofs.lemmas.List.Sums.{sum_by-cons}
 use Rattle.std.proofs.lemmas.List.{append_assoc, append-nil, length-take-le, take_more}
 use Rattle.std.proofs.Math.Nat.{mul-div_cancel, zero-div}
 use Rattle.sources.specs.Meaning.{Meaning, row_of, worth_of}
-use Rattle.auction.specs.declared.standing.Standing.{Standing}
-use Rattle.auction.specs.declared.standing.Standing.TheVariants.{Served, Out}
+use Rattle.auction.specs.declared.bidding.Standing.{Standing}
+use Rattle.auction.specs.declared.bidding.Standing.TheVariants.{Served, Out}
 use Rattle.auction.specs.Standings.{job_served}
 use Rattle.auction.specs.Laws.{given_worth, worth_along}
 use Rattle.pairing.specs.Listing.{carrier_line, carrier_lines}

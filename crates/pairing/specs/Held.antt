@@ -1,9 +1,9 @@
 -- What the hall tells of the worths of a sheet that is under times (carriers + 1).
 use Rattle.std.specs.Prelude.{◌≡◌, ℕ, ◌+◌, ◌*◌, ◌/◌, List, length, slice_index_or}
 use Rattle.sources.specs.Meaning.{Meaning, worth_of}
-use Rattle.auction.specs.declared.standing.Held.{Held}
-use Rattle.auction.specs.declared.standing.Standing.{Standing}
-use Rattle.auction.specs.declared.standing.Standing.TheVariants.{Served, Out}
+use Rattle.auction.specs.declared.bidding.Held.{Held}
+use Rattle.auction.specs.declared.bidding.Standing.{Standing}
+use Rattle.auction.specs.declared.bidding.Standing.TheVariants.{Served, Out}
 use Rattle.auction.specs.Standings.{worth_served}
 
 -- A served carrier is told (carriers + 1) times what its job is worth to it on the sheet.

@@ -3,9 +3,9 @@ use Rattle.std.specs.Prelude.{ℕ, ◌+◌, List, [], ◌∷◌, ◌++◌, map, 
 use Rattle.refusals.specs.declared.Refusal.{Refusal}
 use Rattle.refusals.specs.Numbering.{number_of}
 use Rattle.sources.specs.Meaning.{Meaning, worth_of}
-use Rattle.auction.specs.declared.standing.Counts.{Counts}
-use Rattle.auction.specs.declared.standing.Standing.{Standing}
-use Rattle.auction.specs.declared.standing.Standing.TheVariants.{Waiting, Bidding, Served, Out}
+use Rattle.auction.specs.declared.bidding.Counts.{Counts}
+use Rattle.auction.specs.declared.bidding.Standing.{Standing}
+use Rattle.auction.specs.declared.bidding.Standing.TheVariants.{Waiting, Bidding, Served, Out}
 use Rattle.auction.specs.Standings.{job_served}
 use Rattle.auction.specs.Laws.{worth}
 
@@ -18,15 +18,15 @@ abbrev pub space : List ℕ
 space = codes " "
 
 -- What carrier i has: its job and what that is worth to it, as `1 11`; `-` if it is out; `?` if it waits or bids.
-abbrev pub standing_text : Meaning → ℕ → Standing → List ℕ
-standing_text m i Waiting = codes "?"
-standing_text m i (Bidding b) = codes "?"
-standing_text m i (Served h) = decimal h.job ++ (space ++ decimal (worth_of m i h.job))
-standing_text m i Out = codes "-"
+abbrev pub outcome_text : Meaning → ℕ → Standing → List ℕ
+outcome_text m i Waiting = codes "?"
+outcome_text m i (Bidding b) = codes "?"
+outcome_text m i (Served h) = decimal h.job ++ (space ++ decimal (worth_of m i h.job))
+outcome_text m i Out = codes "-"
 
 -- The line of a carrier, as `1 1 11`.
 abbrev pub carrier_line : Meaning → ℕ → Standing → List ℕ
-carrier_line m i s = decimal i ++ (space ++ (standing_text m i s ++ newline))
+carrier_line m i s = decimal i ++ (space ++ (outcome_text m i s ++ newline))
 
 -- The lines of carriers that are numbered from i on.
 abbrev pub carrier_lines : Meaning → ℕ → List Standing → List ℕ

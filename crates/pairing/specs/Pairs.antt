@@ -12,10 +12,10 @@ use Rattle.sources.specs.Layers.{times_of}
 use Rattle.sheetfile.specs.Layout.{SheetFile}
 use Rattle.sheetfile.specs.Reading.{loaded_within}
 use Rattle.sheetfile.specs.Steps.{and_then, room_for, updated}
-use Rattle.auction.specs.declared.call.Call.{Call}
-use Rattle.auction.specs.declared.call.Call.TheVariants.{Start, Run}
-use Rattle.auction.specs.declared.standing.Counts.{Counts}
-use Rattle.auction.specs.declared.standing.Standing.{Standing}
+use Rattle.auction.specs.declared.calls.Call.{Call}
+use Rattle.auction.specs.declared.calls.Call.TheVariants.{Start, Run}
+use Rattle.auction.specs.declared.bidding.Counts.{Counts}
+use Rattle.auction.specs.declared.bidding.Standing.{Standing}
 use Rattle.auction.specs.Standings.{ServedOrOut}
 use Rattle.auction.specs.Tally.{Tally}
 use Rattle.auction.specs.Calls.{tally_after}

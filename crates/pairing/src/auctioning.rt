@@ -4,12 +4,10 @@ ghost use Rattle.pairing.specs.Held.{HeldUnderTimes};
 ghost use Rattle.pairing.specs.Pairs.{Ends, auctioned};
 ghost use Rattle.sources.specs.Limits.{most_carriers};
 
-use auction::call::{Answer, Call};
-use auction::standing::{Counts, Standing};
-use hall::hall::Hall;
+use auction::{Answer, Call, Counts, Standing};
+use hall::Hall;
 use refusals::Refusal;
-use sources::source::Source;
-use sources::times::Times;
+use sources::{Source, Times};
 
 // The figures of the auction of every sheet.
 const PAIR_STEP: u64 = 1;

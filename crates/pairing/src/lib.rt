@@ -13,14 +13,12 @@ ghost use Rattle.sources.specs.Limits.{most_carriers};
 use crate::auctioning::hold_auction;
 use crate::listing::Ended;
 use crate::loading::load_within;
-use crate::putting::put_number;
-use auction::standing::Standing;
+use crate::putting::put_decimal;
+use auction::Standing;
 use outputs::Output;
 use refusals::Refusal;
-use sheetfile::owned::OwnTables;
-use sheetfile::whole::MOST_ENTRIES;
-use sources::checks::MOST_CARRIERS;
-use sources::source::Source;
+use sheetfile::{MOST_ENTRIES, OwnTables};
+use sources::{MOST_CARRIERS, Source};
 
 mod auctioning;
 mod listing;
@@ -88,22 +86,22 @@ fn list_source<S: Source>(source: &S, out: &mut [u8]) -> Result<usize, Refusal>
 /// No Result: a refusal is printed too, so there is a text in each case. The text goes to a lent buffer and is not kept here, since C's
 /// call lists into one of its own.
 #[derive(Drop)]
-pub struct Printed {
+pub struct PrintedPairs {
     pub len: usize,
     pub refusal: Option<Refusal>,
 }
 
 /// Pairs the carriers and jobs of a sheet file, and writes the listing, or one line that tells the refusal.
 /// Bytes behind the text are not touched.
-pub fn print_pairs(sheet: &[u8], text: &mut [u8; MOST_TEXT]) -> Printed
+pub fn print_pairs(sheet: &[u8], text: &mut [u8; MOST_TEXT]) -> PrintedPairs
     ensures len { result.len ≡ length (printed (listed sheet.now)) }
     ensures text { text.new ≡ over text.old 0 (printed (listed sheet.now)) }
     ensures refusal { result.refusal ≡ result_err (listed sheet.now) }
     ensures paired { (text : List ℕ) → listed sheet.now ≡ Ok text → ListsFile sheet.now text }
 {
     match list_pairs(sheet, text) {
-        Ok(len) => Printed { len, refusal: None },
-        Err(refusal) => Printed {
+        Ok(len) => PrintedPairs { len, refusal: None },
+        Err(refusal) => PrintedPairs {
             len: put_refused(refusal, text),
             refusal: Some(refusal),
         },
@@ -128,6 +126,6 @@ fn put_refused_line(refusal: Refusal, output: &mut Output<'_>)
     ensures short { length (refused_line refusal) ≤ 12 }
 {
     output.put(b"refused ");
-    put_number(output, refusal.number());
+    put_decimal(output, refusal.number());
     output.put(b"\n");
 }

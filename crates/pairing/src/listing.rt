@@ -4,15 +4,15 @@ ghost use Rattle.numbers.specs.Writing.{over};
 ghost use Rattle.auction.specs.Standings.{job_served};
 ghost use Rattle.auction.specs.Laws.{worth};
 ghost use Rattle.outputs.specs.Puts.{Puts};
-ghost use Rattle.pairing.specs.Listing.{carrier_line, carrier_lines, last_line, listing as listing_of, standing_text};
+ghost use Rattle.pairing.specs.Listing.{carrier_line, carrier_lines, last_line, listing as listing_of, outcome_text};
 ghost use Rattle.pairing.specs.Held.{HeldUnderTimes, worth_told};
 ghost use Rattle.pairing.specs.Pairs.{most_text};
 ghost use Rattle.sources.specs.Limits.{most_carriers};
 
-use crate::putting::put_number;
-use auction::standing::{Counts, Standing};
+use crate::putting::put_decimal;
+use auction::{Counts, Standing};
 use outputs::Output;
-use sources::source::Source;
+use sources::Source;
 
 // An auction that has ended: what every carrier has of a sheet, and the counts.
 #[derive(Drop)]
@@ -35,15 +35,15 @@ impl<S: Source> Ended<'_, S> {
     // Puts what a carrier has.
     fn put_standing(&self, carrier: usize, standing: Standing, output: &mut Output<'_>)
         requires { standing ≡ slice_index_or self.now.standings.now carrier Standing.Out }
-        ensures puts { Puts output.old output.new (standing_text (S.Source.meaning self.now.source.now) carrier standing) }
-        ensures short { length (standing_text (S.Source.meaning self.now.source.now) carrier standing) ≤ 41 }
+        ensures puts { Puts output.old output.new (outcome_text (S.Source.meaning self.now.source.now) carrier standing) }
+        ensures short { length (outcome_text (S.Source.meaning self.now.source.now) carrier standing) ≤ 41 }
     {
         match standing {
             Standing::Waiting | Standing::Bidding(_) => output.put(b"?"),
             Standing::Served(held) => {
-                put_number(output, held.job);
+                put_decimal(output, held.job);
                 output.put(b" ");
-                put_number(output, self.on_sheet(held.worth));
+                put_decimal(output, self.on_sheet(held.worth));
             }
             Standing::Out => output.put(b"-"),
         }
@@ -55,7 +55,7 @@ impl<S: Source> Ended<'_, S> {
         ensures puts { Puts output.old output.new (carrier_line (S.Source.meaning self.now.source.now) carrier standing) }
         ensures short { length (carrier_line (S.Source.meaning self.now.source.now) carrier standing) ≤ 63 }
     {
-        put_number(output, carrier);
+        put_decimal(output, carrier);
         output.put(b" ");
         self.put_standing(carrier, standing, output);
         output.put(b"\n");
@@ -100,11 +100,11 @@ impl<S: Source> Ended<'_, S> {
             length (last_line total self.now.counts) ≤ 101 }
     {
         output.put(b"worth ");
-        put_number(output, self.total_worth());
+        put_decimal(output, self.total_worth());
         output.put(b" awards ");
-        put_number(output, self.counts.awards);
+        put_decimal(output, self.counts.awards);
         output.put(b" stale ");
-        put_number(output, self.counts.stales);
+        put_decimal(output, self.counts.stales);
         output.put(b"\n");
     }
 

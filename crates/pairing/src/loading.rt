@@ -7,8 +7,7 @@ ghost use Rattle.sheetfile.specs.Steps.{updated, without_value};
 ghost use Rattle.sheetfile.specs.Tables.{sheet_held};
 
 use refusals::{Fault, Refusal};
-use sheetfile::owned::OwnTables;
-use sheetfile::whole::MOST_BYTES;
+use sheetfile::{MOST_BYTES, OwnTables};
 
 // Loads a file within the limits of the programs, into tables that may be smaller where the file is short: each entry takes two
 // bytes at least, so tables with a place for each two bytes have room enough. Where it is refused, they hold the sheet that they held.

@@ -6,7 +6,7 @@ use itoa::{Buffer, Integer};
 use outputs::Output;
 
 // Puts a number in decimal.
-pub(crate) fn put_number<I: Integer>(output: &mut Output<'_>, n: I)
+pub(crate) fn put_decimal<I: Integer>(output: &mut Output<'_>, n: I)
     ensures puts { Puts output.old output.new (I.text n) }
     ensures short { length (I.text n) ≤ I.MAX_STR_LEN }
 {

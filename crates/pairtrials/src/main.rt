@@ -2,7 +2,7 @@
 #![tactic(auto)]
 
 mod file;
-mod told;
+mod listing;
 mod trial;
 
 use grids::draws::Draw;

@@ -1,6 +1,6 @@
 //! One sheet: its listing beside the best pairing, buffers of every kind, and damaged files.
 use crate::file::file_of;
-use crate::told::{Told, read_listing};
+use crate::listing::{Listing, read_listing};
 use anyhow::{Context, ensure};
 use grids::Grid;
 use grids::draws::Draw;
@@ -60,7 +60,7 @@ fn is_refused(sheet: &[u8], out: &mut [u8], refusal: Refusal) -> bool {
 fn on_grid(grid: &Grid, sheet: &[u8], sums: &mut Sums) -> anyhow::Result<()> {
     let mut out = [UNTOUCHED; ROOM];
     let text = listing_in(sheet, &mut out).context(WRONG)?;
-    let Told { worth, open, done } = read_listing(grid, text).context(WRONG)?;
+    let Listing { worth, open, done } = read_listing(grid, text).context(WRONG)?;
     let count = if open == 0 {
         &mut sums.best
     } else {

@@ -3,7 +3,7 @@
 use anyhow::{Context, ensure};
 use replaying::log::{MOST_LOG_BYTES, Trouble};
 use replaying::replay_log;
-use sheetfile::whole::MOST_BYTES;
+use sheetfile::MOST_BYTES;
 use std::io::Read;
 use std::{env, fs};
 use texts::Printed;

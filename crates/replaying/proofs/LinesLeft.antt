@@ -17,7 +17,7 @@ use Rattle.texts.specs.declared.Failure.{Failure}
 use Rattle.texts.specs.declared.Failure.TheVariants.{Memory, Refused}
 use Rattle.replaying.specs.declared.log.Trouble.{Trouble}
 use Rattle.replaying.specs.declared.log.Trouble.TheVariants.{Line}
-use Rattle.replaying.specs.Logs.{Asked, Notes, Reads, asked_from, asked_in, noted_by, nothing_asked, or_line}
+use Rattle.replaying.specs.Logs.{Asked, Notes, ReadsLog, asked_from, asked_in, noted_by, nothing_asked, or_line}
 use Rattle.replaying.specs.Parts.{lines_of}
 
 -- a line that cannot stand there, and one that can
@@ -59,7 +59,7 @@ module _ (lines : List (List ℕ)) (k : ℕ) (a : Asked) (line : List ℕ) (here
   asked_on n b e h = ap (λ m. asked_from (m + 1) b (drop m lines)) e ∙ sym (ap (asked_from (k + 1) a) here ∙ asked_more (k + 1) a b line (drop (k + 1) lines) h)
 
   -- it is not, or memory ran out
-  pub read_err : (text : List ℕ) (i : ℕ) (new : Asked) (e : Failure Trouble) → i ≡ k → asked_in text ≡ asked_from (k + 1) a (drop k lines) → Notes (i + 1) (noted_by line a) new (Err e) → Reads (asked_in text) (Err e)
+  pub read_err : (text : List ℕ) (i : ℕ) (new : Asked) (e : Failure Trouble) → i ≡ k → asked_in text ≡ asked_from (k + 1) a (drop k lines) → Notes (i + 1) (noted_by line a) new (Err e) → ReadsLog (asked_in text) (Err e)
   read_err text i new Memory z is h = tt
   read_err text i new (Refused t) z is h = is ∙ ap (asked_from (k + 1) a) here ∙ asked_bad (k + 1) a line (drop (k + 1) lines) h.0 ∙ ap (λ n. Err (Line (n + 1))) (sym z) ∙ ap Err (sym h.1)
 

@@ -4,7 +4,7 @@ use Rattle.std.specs.Option.{option_and_then, option_map}
 use Rattle.refusals.specs.declared.Refusal.TheVariants.{TooShort}
 use Rattle.sources.specs.Layers.{floor_of, times_of}
 use Rattle.sources.specs.Meaning.{Meaning}
-use Rattle.auction.specs.declared.call.Call.{Call}
+use Rattle.auction.specs.declared.calls.Call.{Call}
 use Rattle.texts.specs.declared.Failure.{Failure}
 use Rattle.texts.specs.declared.Failure.TheVariants.{Memory, Refused}
 use Rattle.replaying.specs.declared.line.Layer.{Layer}
@@ -77,10 +77,10 @@ Notes n o new (Err Memory) = Unit {0}
 Notes n o new (Err (Refused t)) = (o ≡ None) × (t ≡ Line n)
 
 -- What comes of reading a log.
-abbrev pub Reads : Result Asked Trouble → Result Log (Failure Trouble) → Type 0
-Reads r (Ok log) = r ≡ Ok (held_in log)
-Reads r (Err Memory) = Unit {0}
-Reads r (Err (Refused t)) = r ≡ Err t
+abbrev pub ReadsLog : Result Asked Trouble → Result Log (Failure Trouble) → Type 0
+ReadsLog r (Ok log) = r ≡ Ok (held_in log)
+ReadsLog r (Err Memory) = Unit {0}
+ReadsLog r (Err (Refused t)) = r ≡ Err t
 
 -- A source under a layer, or under none.
 abbrev pub under : Option Layer → Meaning → Meaning

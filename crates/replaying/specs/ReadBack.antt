@@ -1,8 +1,8 @@
 -- A printed call is read back as that call.
 use Rattle.std.specs.Prelude.{◌≡◌, ℕ, ◌^◌, ◌<◌, ◌≤◌, List, ◌++◌, length, Some, Ok}
 use Rattle.std.specs.List.{flat_map, AllByRecursion}
-use Rattle.auction.specs.declared.call.Call.{Call}
-use Rattle.auction.specs.declared.call.Call.TheVariants.{Start, Summon, Look, Settle, Run, PriceOf, HolderOf, StandingOf, TotalWorth, AllCounts}
+use Rattle.auction.specs.declared.calls.Call.{Call}
+use Rattle.auction.specs.declared.calls.Call.TheVariants.{Start, Summon, Look, Settle, Run, PriceOf, HolderOf, StandingOf, TotalWorth, AllCounts}
 use Rattle.replaying.specs.declared.line.Said.TheVariants.{Make}
 use Rattle.replaying.specs.Lines.{said_by}
 use Rattle.replaying.specs.Logs.{asked_in, most_log_bytes, no_layers}

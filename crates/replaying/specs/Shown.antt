@@ -5,8 +5,8 @@ use Rattle.refusals.specs.declared.Refusal.{Refusal}
 use Rattle.refusals.specs.Reasons.{refusal_text}
 use Rattle.texts.specs.Telling.{newline}
 use Rattle.auction.specs.Shown.{answer_text, call_text}
-use Rattle.auction.specs.declared.call.Call.{Call}
-use Rattle.auction.specs.declared.call.Answer.{Answer}
+use Rattle.auction.specs.declared.calls.Call.{Call}
+use Rattle.auction.specs.declared.calls.Answer.{Answer}
 
 -- A call's answer, or the refusal.
 abbrev pub told_text : Result Answer Refusal → List ℕ

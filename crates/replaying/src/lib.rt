@@ -10,8 +10,8 @@ ghost use Rattle.std.specs.Prelude.{IfOk};
 use crate::log::{Trouble, read_log};
 use crate::printing::append_lines;
 use crate::running::perform_layered;
-use sheetfile::whole::{MOST_ENTRIES, MOST_STARTS, load_within, sheet_over};
-use sources::form::Entry;
+use sheetfile::{MOST_ENTRIES, MOST_STARTS, load_within, sheet_over};
+use sources::Entry;
 use std::alloc::{AllocError, Global};
 use texts::{Failure, Printed};
 

@@ -4,7 +4,7 @@ ghost use Rattle.replaying.specs.Numerals.{number_in};
 ghost use Rattle.std.specs.Option.{option_map};
 ghost use Rattle.std.specs.Prelude.{◌≡◌, is_some};
 
-use auction::call::Call;
+use auction::Call;
 use std::str;
 
 // A layer that is put over the source.

@@ -1,11 +1,11 @@
 //! A log: layers and calls, a line each.
 ghost use Rattle.std.specs.Prelude.{◌≡◌, Some};
-ghost use Rattle.replaying.specs.Logs.{Notes, Reads, asked_in, held_in, layer_more, noted_by};
+ghost use Rattle.replaying.specs.Logs.{Notes, ReadsLog, asked_in, held_in, layer_more, noted_by};
 ghost use Rattle.replaying.specs.Outcomes.{trouble_text};
 ghost use Rattle.texts.specs.declared.Failure.TheVariants.{Refused};
 
 use crate::line::{Layer, Said, said_in};
-use auction::call::Call;
+use auction::Call;
 use refusals::{Fault, Refusal};
 use std::alloc::Global;
 use std::error::Error;
@@ -102,7 +102,7 @@ impl Log {
 
 // Reads a log to its end, or to its first bad line. One of more than 65,536 bytes is refused before any is read.
 pub(crate) fn read_log(heap: Global, text: &[u8]) -> Result<Log, Failure<Trouble>>
-    ensures { Reads (asked_in text.now) result }
+    ensures { ReadsLog (asked_in text.now) result }
 {
     if text.len() > MOST_LOG_BYTES {
         return Err(Trouble::Calls(Refusal::TooShort).into());

@@ -2,7 +2,7 @@
 ghost use Rattle.replaying.specs.Shown.{answer_line, answer_lines};
 ghost use Rattle.std.specs.Prelude.{◌≡◌, ◌++◌, length, string_bytes, OnOk};
 
-use auction::call::{Answer, Call};
+use auction::{Answer, Call};
 use refusals::Refusal;
 use std::alloc::AllocError;
 

@@ -5,12 +5,10 @@ ghost use Rattle.std.specs.Prelude.{◌≡◌, IfOk, None};
 
 use crate::line::Layer;
 use crate::log::Layers;
-use auction::call::{Answer, Call};
-use hall::replay::replay;
+use auction::{Answer, Call};
+use hall::replay;
 use refusals::Refusal;
-use sources::floor::Floor;
-use sources::source::Source;
-use sources::times::Times;
+use sources::{Floor, Source, Times};
 use std::alloc::{AllocError, Global};
 
 // Performs the calls on a new hall over the source, and gives the answers. It fails only for want of memory.

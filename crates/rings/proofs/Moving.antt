@@ -7,7 +7,7 @@ use Rattle.rings.specs.declared.moves.Move.{Move}
 use Rattle.rings.specs.declared.moves.Move.TheVariants.{Push, Pop}
 use Rattle.rings.specs.declared.moves.Outcome.{Outcome}
 use Rattle.rings.specs.declared.moves.Outcome.TheVariants.{Pushed}
-use Rattle.rings.specs.Moves.{list_after, outcome_of, list_after_all, outcomes_of, pushed_by, all_pushed, popped_by, all_popped, Performed}
+use Rattle.rings.specs.Moves.{list_after, outcome_of, list_after_all, outcomes_of, pushed_by, all_pushed, popped_by, all_popped, MovesMade}
 
 -- One move keeps the order.
 one_in_order : {X : Type 0} (n : ℕ) (xs : List X) (m : Move X) → xs ++ pushed_by m (outcome_of n xs m) ≡ popped_by (outcome_of n xs m) ++ list_after n xs m
@@ -50,13 +50,13 @@ pub behind_more : {Y : Type 0} (os before : List Y) (i : ℕ) (o : Y) → i < le
 behind_more os before i o l h = drop-set-lt (i + 1) os i o (omega arith) ∙ sym (drop-drop 1 i os) ∙ ap (drop 1) h ∙ drop-drop 1 i before
 
 pub all_performed : {X : Type 0} (n : ℕ) (ms : List (Move X)) (xs ys : List X) (before after : List (Outcome X)) (i : ℕ) → length ms ≤ i → i ≤ length ms →
-    ys ≡ list_after_all n xs (take i ms) → take i after ≡ outcomes_of n xs (take i ms) → drop i after ≡ drop i before → Performed n ms xs ys before after
+    ys ≡ list_after_all n xs (take i ms) → take i after ≡ outcomes_of n xs (take i ms) → drop i after ≡ drop i before → MovesMade n ms xs ys before after
 all_performed n ms xs ys before after i l l' h t d =
     let e : i ≡ length ms = omega arith in
     let w = take_all i ms l in
     let y : ys ≡ list_after_all n xs ms = h ∙ ap (list_after_all n xs) w in
     record {
-      told = sym (take-append-drop i after) ∙ ap (λ z. z ++ drop i after) (t ∙ ap (outcomes_of n xs) w) ∙ ap (λ z. outcomes_of n xs ms ++ z) (d ∙ ap (λ k. drop k before) e);
+      outcomes = sym (take-append-drop i after) ∙ ap (λ z. z ++ drop i after) (t ∙ ap (outcomes_of n xs) w) ∙ ap (λ z. outcomes_of n xs ms ++ z) (d ∙ ap (λ k. drop k before) e);
       left = y;
       in_order = all_in_order n ms xs ∙ ap (λ z. all_popped (outcomes_of n xs ms) ++ z) (sym y);
     }

@@ -48,9 +48,9 @@ all_popped [] = []
 all_popped (o ∷ os) = popped_by o ++ all_popped os
 
 -- What a list of moves leaves of a ring that held xs and then holds ys, and of the outcomes.
-pub record Performed {X : Type 0} (n : ℕ) (ms : List (Move X)) (xs ys : List X) (before after : List (Outcome X)) : Type 0 where
+pub record MovesMade {X : Type 0} (n : ℕ) (ms : List (Move X)) (xs ys : List X) (before after : List (Outcome X)) : Type 0 where
   -- What a list would yield; places behind stay.
-  pub told : after ≡ outcomes_of n xs ms ++ drop (length ms) before
+  pub outcomes : after ≡ outcomes_of n xs ms ++ drop (length ms) before
   pub left : ys ≡ list_after_all n xs ms
   -- First in, first out: what was held and then pushed is what was popped and then held.
   pub in_order : xs ++ all_pushed ms (outcomes_of n xs ms) ≡ all_popped (outcomes_of n xs ms) ++ ys

@@ -56,9 +56,9 @@ impl<'a, T: Copy> Ring<'a, T> {
     pub fn push(&mut self, x: T) -> Result<(), Refusal>
         ensures holds { held self.new ≡ (if is_ok result then held self.old ++ x ∷ [] else held self.old) }
         ensures test { is_ok result ≡ nat_lt (length (held self.old)) (room self.old) }
-        ensures refused { IfErr result (λ e. e ≡ Refusal.TooShort) }
+        ensures reason { IfErr result (λ e. e ≡ Refusal.TooShort) }
         ensures size { room self.new ≡ room self.old }
-        ensures kept { is_ok result ≡ false → self.new ≡ self.old }
+        ensures refused { is_ok result ≡ false → self.new ≡ self.old }
     {
         let size = self.places.len();
         if self.len == size {
@@ -81,7 +81,7 @@ impl<'a, T: Copy> Ring<'a, T> {
         ensures holds { held self.old ≡ option_to_list result ++ held self.new }
         ensures test { is_some result ≡ nat_lt 0 (length (held self.old)) }
         ensures size { room self.new ≡ room self.old }
-        ensures kept { is_some result ≡ false → self.new ≡ self.old }
+        ensures empty { is_some result ≡ false → self.new ≡ self.old }
     {
         if self.len == 0 {
             return None;

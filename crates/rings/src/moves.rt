@@ -1,6 +1,6 @@
 //! Lists of pushes and pops.
 ghost use Rattle.rings.specs.Held.{held, room};
-ghost use Rattle.rings.specs.Moves.{Performed, list_after, outcome_of};
+ghost use Rattle.rings.specs.Moves.{MovesMade, list_after, outcome_of};
 ghost use Rattle.rings.specs.declared.moves.Outcome.TheVariants.{Pushed, Popped};
 ghost use Rattle.std.specs.Prelude.{◌≡◌, true, false, length, is_ok, if◌then◌else◌, None, Ok, Err, nat_le};
 
@@ -24,7 +24,7 @@ pub enum Outcome<T> {
 impl<'a, T: Copy> Ring<'a, T> {
     /// Makes one push or pop. A push that is refused, and a pop that finds nothing, leave the ring as it was.
     pub fn perform(&mut self, step: Move<T>) -> Outcome<T>
-        ensures told { result ≡ outcome_of (room self.old) (held self.old) step }
+        ensures outcome { result ≡ outcome_of (room self.old) (held self.old) step }
         ensures holds { held self.new ≡ list_after (room self.old) (held self.old) step }
         ensures refused { result ≡ Pushed (Err Refusal.TooShort) → self.new ≡ self.old }
         ensures empty { result ≡ Popped None → self.new ≡ self.old }
@@ -44,7 +44,7 @@ impl<'a, T: Copy> Ring<'a, T> {
     ) -> Result<(), Refusal>
         ensures fits { result ≡ (if nat_le (length moves.now) (length outcomes.old) then Ok tt else Err Refusal.TooShort) }
         ensures performed { is_ok result ≡ true →
-            Performed (room self.old) moves.now (held self.old) (held self.new) outcomes.old outcomes.new }
+            MovesMade (room self.old) moves.now (held self.old) (held self.new) outcomes.old outcomes.new }
         ensures refused { is_ok result ≡ false → (outcomes.new ≡ outcomes.old) × (self.new ≡ self.old) }
         ensures size { room self.new ≡ room self.old }
     {

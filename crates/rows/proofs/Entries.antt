@@ -6,21 +6,21 @@ use Rattle.sources.specs.Meaning.{Rising, worth_in}
 use Rattle.std.specs.List.{find}
 use Rattle.std.specs.Option.{MatchOption, option_map, unwrap_or}
 use Rattle.sources.proofs.Reading.{rising_apart}
-use Rattle.rows.specs.Totals.{job_in, worth_at}
+use Rattle.rows.specs.Totals.{entry_job, entry_worth}
 
 module _ (row : List (ℕ × ℕ)) (k job worth : ℕ) (l : k < length row) (is : get_or row k (0, 0) ≡ (job, worth)) where
-  job_is : job_in row k ≡ job
+  job_is : entry_job row k ≡ job
   job_is = ap (λ (e : ℕ × ℕ). e.0) is
 
-  worth_is : worth_at row k ≡ worth
+  worth_is : entry_worth row k ≡ worth
   worth_is = ap (λ (e : ℕ × ℕ). e.1) is
 
 -- ---- the best of the first k entries; worth 0 says that there is none
 
 pub record BestOfFirst (row : List (ℕ × ℕ)) (k job worth : ℕ) : Type 0 where
   pub there : 0 < worth → (i : ℕ) × (i < k) × (get_or row i (0, 0) ≡ (job, worth))
-  pub greatest : (i : ℕ) → i < k → worth_at row i ≤ worth
-  pub smallest : 0 < worth → (i : ℕ) → i < k → worth_at row i ≡ worth → job ≤ job_in row i
+  pub greatest : (i : ℕ) → i < k → entry_worth row i ≤ worth
+  pub smallest : 0 < worth → (i : ℕ) → i < k → entry_worth row i ≡ worth → job ≤ entry_job row i
 
 module _ (row : List (ℕ × ℕ)) (k job worth job' worth' : ℕ) (l : k < length row) (is : get_or row k (0, 0) ≡ (job', worth')) (best : BestOfFirst row k job worth) where
   pub takes : worth < worth' → BestOfFirst row (k + 1) job' worth'
@@ -29,8 +29,8 @@ module _ (row : List (ℕ × ℕ)) (k job worth job' worth' : ℕ) (l : k < leng
       let j = job_is row k job' worth' l is in
       record {
         there = λ _. (k, omega arith, is);
-        greatest = below_more (λ i. worth_at row i ≤ worth') k (λ i m. omega (arith, best.greatest i m)) (omega arith);
-        smallest = λ _. below_more (λ i. worth_at row i ≡ worth' → job' ≤ job_in row i) k (λ i m e. absurd (omega (arith, best.greatest i m))) (λ _. omega arith);
+        greatest = below_more (λ i. entry_worth row i ≤ worth') k (λ i m. omega (arith, best.greatest i m)) (omega arith);
+        smallest = λ _. below_more (λ i. entry_worth row i ≡ worth' → job' ≤ entry_job row i) k (λ i m e. absurd (omega (arith, best.greatest i m))) (λ _. omega arith);
       }
 
   pub keeps : Rising 0 row → worth' ≤ worth → BestOfFirst row (k + 1) job worth
@@ -38,10 +38,10 @@ module _ (row : List (ℕ × ℕ)) (k job worth job' worth' : ℕ) (l : k < leng
       let w = worth_is row k job' worth' l is in
       record {
         there = λ p. let t = best.there p in (t.0, omega (arith, t.1), t.2);
-        greatest = below_more (λ i. worth_at row i ≤ worth) k best.greatest (omega arith);
-        smallest = λ p. below_more (λ i. worth_at row i ≡ worth → job ≤ job_in row i) k (best.smallest p)
+        greatest = below_more (λ i. entry_worth row i ≤ worth) k best.greatest (omega arith);
+        smallest = λ p. below_more (λ i. entry_worth row i ≡ worth → job ≤ entry_job row i) k (best.smallest p)
             (λ _. let t = best.there p in
-            let first : job_in row t.0 ≡ job = ap (λ (e : ℕ × ℕ). e.0) t.2 in
+            let first : entry_job row t.0 ≡ job = ap (λ (e : ℕ × ℕ). e.0) t.2 in
             omega (arith, rising_apart 0 row rises t.0 k t.1 l, first));
       }
 

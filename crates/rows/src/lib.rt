@@ -7,10 +7,7 @@ ghost use Rattle.sources.specs.Meaning.{row_of, worth_of};
 ghost use Rattle.sources.specs.Layers.{floored, floor_of, scaled, times_of, FloorThenTimes};
 ghost use Rattle.rows.specs.Totals.{row_total, BestIn};
 
-use sources::asking::entries;
-use sources::floor::Floor;
-use sources::source::Source;
-use sources::times::Times;
+use sources::{Floor, Source, Times, entries};
 
 /// What a job is worth to a carrier; 0 if the carrier's row has no entry for it.
 pub fn worth_of<S: Source>(source: &S, carrier: usize, job: usize) -> u64
@@ -74,10 +71,7 @@ pub fn priced_worth<S: Source>(
 mod tests {
     use super::*;
     use refusals::Refusal;
-    use sources::form::{Entry, Heading};
-    use sources::place::Place;
-    use sources::positions::Positions;
-    use sources::sheet::Sheet;
+    use sources::{Entry, Heading, Place, Positions, Sheet};
     use std::test::Fail;
 
     const HEADING: Heading = Heading {

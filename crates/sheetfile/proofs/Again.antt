@@ -9,7 +9,7 @@ use Rattle.refusals.specs.declared.Refusal.TheVariants.{CountsOutside, TooShort}
 use Rattle.sources.specs.Meaning.{Meaning, Rising, Sound}
 use Rattle.sources.specs.Sheets.{within_limits}
 use Rattle.sources.specs.Tables.{Fillable, heading_of}
-use Rattle.sources.specs.declared.form.Heading.{Heading}
+use Rattle.sources.specs.declared.records.Heading.{Heading}
 use Rattle.sheetfile.specs.Laws.{WritesLoadable}
 use Rattle.sheetfile.specs.Layout.{Row, SheetFile, file_of, meaning_of}
 use Rattle.sheetfile.specs.Steps.{room_for}

@@ -11,7 +11,7 @@ use Rattle.refusals.specs.declared.Fault.{Fault}
 use Rattle.refusals.specs.declared.Refusal.TheVariants.{TooShort}
 use Rattle.sources.specs.Meaning.{Meaning, Sound, row_of}
 use Rattle.sources.specs.Tables.{heading_of}
-use Rattle.sources.specs.declared.form.Heading.{Heading}
+use Rattle.sources.specs.declared.records.Heading.{Heading}
 use Rattle.sheetfile.specs.Begun.{Begun}
 use Rattle.sheetfile.specs.Layout.{Row, SheetFile, entries_in, heading_bytes, meaning_of, row_bytes}
 use Rattle.sheetfile.specs.Reading.{closed_at, heading_from, heading_in, loaded, row_from}

@@ -5,7 +5,7 @@ use Rattle.std.specs.List.{AllByRecursion}
 use Rattle.sources.specs.Meaning.{Meaning, Rising, Sound}
 use Rattle.sources.specs.Sheets.{within_limits}
 use Rattle.sources.specs.Tables.{Fillable, heading_of}
-use Rattle.sources.specs.declared.form.Heading.{Heading}
+use Rattle.sources.specs.declared.records.Heading.{Heading}
 use Rattle.sheetfile.specs.Layout.{Row}
 use Rattle.sheetfile.proofs.Steps.{between, from-between}
 

@@ -13,7 +13,7 @@ use Rattle.numbers.specs.Laws.{Begins}
 use Rattle.numbers.specs.Reading.{read_at}
 use Rattle.sources.specs.Meaning.{Meaning}
 use Rattle.sources.specs.Tables.{heading_of}
-use Rattle.sources.specs.declared.form.Heading.{Heading}
+use Rattle.sources.specs.declared.records.Heading.{Heading}
 use Rattle.sheetfile.specs.Layout.{LongEnough, Row, SheetFile, entries_in, entry_bytes, heading_bytes, meaning_of, row_bytes}
 use Rattle.sheetfile.specs.Reading.{closed_at, count_from, entries_from, entry_from, heading_from, heading_in, job_from, loaded, number_from, row_from, row_in, rows_from, worth_from}
 use Rattle.sheetfile.specs.Steps.{and_then, prefixed, room_for}

@@ -6,8 +6,8 @@ use Rattle.refusals.specs.declared.Fault.{Fault}
 use Rattle.refusals.specs.declared.Refusal.TheVariants.{RowsMissing}
 use Rattle.sources.specs.Meaning.{Meaning, row_of}
 use Rattle.sources.specs.Tables.{heading_of}
-use Rattle.sources.specs.declared.form.Entry.{Entry}
-use Rattle.sources.specs.declared.form.Heading.{Heading}
+use Rattle.sources.specs.declared.records.Entry.{Entry}
+use Rattle.sources.specs.declared.records.Heading.{Heading}
 use Rattle.sheetfile.specs.Begun.{Begun}
 use Rattle.sheetfile.specs.Layout.{Row, SheetFile}
 use Rattle.sheetfile.specs.Reading.{closed_at}

@@ -14,8 +14,8 @@ use Rattle.sources.proofs.Tables.{fills, length_ends, means}
 use Rattle.sources.specs.Meaning.{Meaning}
 use Rattle.sources.specs.Sheets.{fill_verdict, sheet_of, within_limits}
 use Rattle.sources.specs.Tables.{entries_of, heading_of, starts_of}
-use Rattle.sources.specs.declared.form.Entry.{Entry}
-use Rattle.sources.specs.declared.form.Heading.{Heading}
+use Rattle.sources.specs.declared.records.Entry.{Entry}
+use Rattle.sources.specs.declared.records.Heading.{Heading}
 use Rattle.sheetfile.specs.Laws.{LoadsExactly}
 use Rattle.sheetfile.specs.Layout.{LongEnough, SheetFile, entries_in}
 use Rattle.sheetfile.specs.Reading.{loaded, loaded_within}

@@ -8,7 +8,7 @@ use Rattle.sources.proofs.Tables.{fills, means}
 use Rattle.sources.specs.Meaning.{Meaning, row_of}
 use Rattle.sources.specs.Sheets.{fill_verdict, sheet_of}
 use Rattle.sources.specs.Tables.{Fillable, entries_of, entry_of, heading_of, starts_of}
-use Rattle.sources.specs.declared.form.Entry.{Entry}
+use Rattle.sources.specs.declared.records.Entry.{Entry}
 use Rattle.sheetfile.specs.Layout.{Row, entries_in}
 use Rattle.sheetfile.specs.Tables.{HoldsRows, sheet_in}
 use Rattle.sheetfile.proofs.Once.{entries_push_row, starts_push}

@@ -3,7 +3,7 @@ use Rattle.std.proofs.Common.{◌≡◌, ℕ, zero, suc, ◌+◌, true, List, []
 use Rattle.std.proofs.lemmas.Bool.{false≢true}
 use Rattle.refusals.specs.declared.Fault.{Fault}
 use Rattle.numbers.specs.Reading.{read_at}
-use Rattle.sources.specs.declared.form.Heading.{Heading}
+use Rattle.sources.specs.declared.records.Heading.{Heading}
 use Rattle.sheetfile.specs.Layout.{Row}
 use Rattle.sheetfile.specs.Readers.{value_of}
 use Rattle.sheetfile.specs.Reading.{entries_from, entry_from, row_from}

@@ -6,8 +6,8 @@ use Rattle.refusals.specs.Faults.{fault_of}
 use Rattle.refusals.specs.declared.Refusal.TheVariants.{NoRowLeft, RowsMissing, TooShort}
 use Rattle.sources.specs.Meaning.{Meaning}
 use Rattle.sources.specs.Tables.{ends_of, entries_of, entry_of, heading_of}
-use Rattle.sources.specs.declared.form.Entry.{Entry}
-use Rattle.sources.specs.declared.form.Heading.{Heading}
+use Rattle.sources.specs.declared.records.Entry.{Entry}
+use Rattle.sources.specs.declared.records.Heading.{Heading}
 use Rattle.sheetfile.specs.Layout.{Row, entries_in, meaning_of}
 use Rattle.sheetfile.specs.Reading.{closed_at, heading_from, heading_in, loaded, row_in, rows_from}
 use Rattle.sheetfile.specs.States.{Stand, after_row, closing, entries_after_row, headed_by, next_row, starts_after_row}

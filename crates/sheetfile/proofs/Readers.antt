@@ -3,7 +3,7 @@ use Rattle.std.proofs.Common.{◌≡◌, ℕ, List, Ok, Err, Result, Bor, sym, a
 use Rattle.refusals.specs.declared.Fault.{Fault}
 use Rattle.sheetfile.specs.Readers.{Reads, reader_after, value_of}
 use Rattle.sheetfile.specs.Reading.{heading_at, heading_in}
-use Rattle.sheetfile.specs.declared.parts.Reader.{Reader}
+use Rattle.sheetfile.specs.declared.reader.Reader.{Reader}
 use Rattle.sheetfile.proofs.Steps.{err_not_ok, ok_same}
 
 value_ok : {A : Type 0} (old new : Reader) (x : A) (read : Result (A × ℕ) Fault) → Ok x ≡ value_of read → new ≡ reader_after old read → (read ≡ Ok (x, new.at)) × (new.bytes ≡ old.bytes)

@@ -4,8 +4,8 @@ use Rattle.std.proofs.lemmas.List.{append_assoc, length-map, length_push, length
 use Rattle.refusals.specs.declared.Fault.{Fault}
 use Rattle.numbers.specs.Reading.{read_at}
 use Rattle.sources.specs.Tables.{entry_of}
-use Rattle.sources.specs.declared.form.Entry.{Entry}
-use Rattle.sources.specs.declared.form.Heading.{Heading}
+use Rattle.sources.specs.declared.records.Entry.{Entry}
+use Rattle.sources.specs.declared.records.Heading.{Heading}
 use Rattle.sheetfile.specs.Layout.{Row}
 use Rattle.sheetfile.specs.Reading.{entries_from, entry_from, row_from}
 use Rattle.sheetfile.specs.Steps.{and_then, prefixed}

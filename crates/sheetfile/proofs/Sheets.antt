@@ -6,7 +6,7 @@ use Rattle.refusals.specs.declared.Fault.{Fault}
 use Rattle.refusals.specs.declared.Refusal.TheVariants.{TooShort}
 use Rattle.sources.specs.Meaning.{Meaning}
 use Rattle.sources.specs.Tables.{heading_of}
-use Rattle.sources.specs.declared.form.Heading.{Heading}
+use Rattle.sources.specs.declared.records.Heading.{Heading}
 use Rattle.sheetfile.specs.Layout.{Row, entries_in, meaning_of}
 use Rattle.sheetfile.specs.Reading.{closed_at, heading_in, loaded, row_from, row_in, rows_from}
 use Rattle.sheetfile.specs.Steps.{and_then, prefixed, room_for}

@@ -8,7 +8,7 @@ use Rattle.refusals.specs.declared.Refusal.TheVariants.{NumberPadded, TooShort}
 use Rattle.numbers.specs.Groups.{before, decoded, decoded_in}
 use Rattle.numbers.specs.Reading.{placed, read_at}
 use Rattle.sources.specs.Meaning.{Meaning}
-use Rattle.sources.specs.declared.form.Heading.{Heading}
+use Rattle.sources.specs.declared.records.Heading.{Heading}
 use Rattle.sheetfile.specs.Layout.{Row, entries_in, meaning_of}
 use Rattle.sheetfile.specs.Reading.{closed_at, entries_from, entry_from, heading_in, job_from, loaded, loaded_within, number_from, row_from, rows_from, worth_from}
 use Rattle.sheetfile.specs.Steps.{and_then, prefixed, room_for}

@@ -8,8 +8,8 @@ use Rattle.refusals.specs.declared.Fault.{Fault}
 use Rattle.refusals.specs.declared.Refusal.TheVariants.{NoRowLeft, TooShort}
 use Rattle.sources.specs.Meaning.{Meaning}
 use Rattle.sources.specs.Tables.{entry_of, heading_of}
-use Rattle.sources.specs.declared.form.Entry.{Entry}
-use Rattle.sources.specs.declared.form.Heading.{Heading}
+use Rattle.sources.specs.declared.records.Entry.{Entry}
+use Rattle.sources.specs.declared.records.Heading.{Heading}
 use Rattle.sheetfile.specs.Layout.{Row}
 use Rattle.sheetfile.specs.Readers.{value_of}
 use Rattle.sheetfile.specs.Reading.{row_from, row_in}

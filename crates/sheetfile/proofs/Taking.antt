@@ -5,7 +5,7 @@ use Rattle.std.proofs.lemmas.List.{length-map}
 use Rattle.numbers.specs.Reading.{read_at}
 use Rattle.refusals.specs.declared.Fault.{Fault}
 use Rattle.sources.specs.Tables.{entry_of}
-use Rattle.sources.specs.declared.form.Entry.{Entry}
+use Rattle.sources.specs.declared.records.Entry.{Entry}
 use Rattle.sheetfile.specs.Begun.{Begun}
 use Rattle.sheetfile.specs.Layout.{Row}
 use Rattle.sheetfile.specs.Readers.{reader_after, value_of}
@@ -13,7 +13,7 @@ use Rattle.sheetfile.specs.Reading.{row_from}
 use Rattle.sheetfile.specs.States.{RowRead, Stand, after_row, entries_after_row, next_row, starts_after_row}
 use Rattle.sheetfile.specs.Steps.{updated}
 use Rattle.sheetfile.specs.Tables.{HoldsRow, row_count}
-use Rattle.sheetfile.specs.declared.parts.Reader.{Reader}
+use Rattle.sheetfile.specs.declared.reader.Reader.{Reader}
 use Rattle.sheetfile.proofs.Begun.{begun_more}
 use Rattle.sheetfile.proofs.Known.{known}
 use Rattle.sheetfile.proofs.Overs.{over_end}

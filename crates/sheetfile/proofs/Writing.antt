@@ -14,7 +14,7 @@ use Rattle.sources.proofs.Reading.{row_known, row_length, row_within}
 use Rattle.sources.specs.Meaning.{Meaning, Sound, row_of}
 use Rattle.sources.specs.Sheets.{within_limits}
 use Rattle.sources.specs.Tables.{heading_of}
-use Rattle.sources.specs.declared.form.Heading.{Heading}
+use Rattle.sources.specs.declared.records.Heading.{Heading}
 use Rattle.sheetfile.specs.Layout.{Row, entries_in, entry_bytes, heading_bytes, row_bytes}
 use Rattle.sheetfile.specs.Writing.{nonzero, nonzero_bytes, written}
 use Rattle.sheetfile.proofs.Bounds.{HeadingIn, limits}

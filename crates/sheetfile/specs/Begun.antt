@@ -3,7 +3,7 @@ use Rattle.std.specs.Prelude.{◌≡◌, ℕ, ◌<◌, ◌≤◌, true, List, �
 use Rattle.std.specs.List.{flat_map, AllByRecursion}
 use Rattle.sources.specs.Meaning.{Sound}
 use Rattle.sources.specs.Sheets.{within_limits}
-use Rattle.sources.specs.declared.form.Heading.{Heading}
+use Rattle.sources.specs.declared.records.Heading.{Heading}
 use Rattle.sheetfile.specs.Layout.{Row, entries_in, heading_bytes, row_bytes}
 
 -- The bytes before a place are those of a heading and of its first rows, so many rows with so many entries in all, which

@@ -4,8 +4,8 @@ use Rattle.refusals.specs.declared.Fault.{Fault}
 use Rattle.refusals.specs.declared.Refusal.{Refusal}
 use Rattle.sources.specs.Meaning.{Meaning}
 use Rattle.sources.specs.Tables.{entries_of, heading_of, starts_of}
-use Rattle.sources.specs.declared.form.Entry.{Entry}
-use Rattle.sources.specs.declared.form.Heading.{Heading}
+use Rattle.sources.specs.declared.records.Entry.{Entry}
+use Rattle.sources.specs.declared.records.Heading.{Heading}
 use Rattle.sheetfile.specs.Limits.{most_bytes, most_entries}
 use Rattle.sheetfile.specs.Layout.{LongEnough, SheetFile, entries_in}
 use Rattle.sheetfile.specs.Reading.{loaded}

@@ -4,7 +4,7 @@ use Rattle.std.specs.List.{flat_map}
 use Rattle.numbers.specs.Groups.{encoded}
 use Rattle.sources.specs.Meaning.{Meaning}
 use Rattle.sources.specs.Tables.{Fillable, heading_of}
-use Rattle.sources.specs.declared.form.Heading.{Heading}
+use Rattle.sources.specs.declared.records.Heading.{Heading}
 
 -- The entries of one carrier: pairs of job and worth.
 abbrev pub Row : Type 0

@@ -2,7 +2,7 @@
 use Rattle.std.specs.Prelude.{◌≡◌, ℕ, Ok, Err, Result}
 use Rattle.std.specs.Result.{result_map_both}
 use Rattle.refusals.specs.declared.Fault.{Fault}
-use Rattle.sheetfile.specs.declared.parts.Reader.{Reader}
+use Rattle.sheetfile.specs.declared.reader.Reader.{Reader}
 
 -- What is read, without the place behind it.
 abbrev pub value_of : {A : Type 0} → Result (A × ℕ) Fault → Result A Fault

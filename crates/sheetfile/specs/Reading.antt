@@ -9,7 +9,7 @@ use Rattle.refusals.specs.declared.Refusal.TheVariants.{BytesFollow, CountsOutsi
 use Rattle.numbers.specs.Reading.{read_at}
 use Rattle.sources.specs.Limits.{most_carriers, most_jobs, highest_ceiling}
 use Rattle.sources.specs.Meaning.{Meaning}
-use Rattle.sources.specs.declared.form.Heading.{Heading}
+use Rattle.sources.specs.declared.records.Heading.{Heading}
 use Rattle.sheetfile.specs.Layout.{Row, entries_in, meaning_of}
 use Rattle.sheetfile.specs.Limits.{most_bytes, most_entries, most_starts}
 use Rattle.sheetfile.specs.Steps.{and_then, prefixed, room_for}

@@ -5,8 +5,8 @@ use Rattle.refusals.specs.declared.Fault.{Fault}
 use Rattle.refusals.specs.declared.Refusal.TheVariants.{NoRowLeft, RowsMissing, TooShort}
 use Rattle.sources.specs.Meaning.{Meaning, row_of}
 use Rattle.sources.specs.Tables.{entry_of, heading_of}
-use Rattle.sources.specs.declared.form.Entry.{Entry}
-use Rattle.sources.specs.declared.form.Heading.{Heading}
+use Rattle.sources.specs.declared.records.Entry.{Entry}
+use Rattle.sources.specs.declared.records.Heading.{Heading}
 use Rattle.sheetfile.specs.Layout.{Row, SheetFile}
 use Rattle.sheetfile.specs.Reading.{closed_at, heading_in, row_in}
 use Rattle.sheetfile.specs.Steps.{and_then, room_for, updated}
@@ -16,7 +16,7 @@ use Rattle.sheetfile.specs.declared.loader.Bare.{Bare}
 use Rattle.sheetfile.specs.declared.loader.Closed.{Closed}
 use Rattle.sheetfile.specs.declared.loader.Headed.{Headed}
 use Rattle.sheetfile.specs.declared.loader.Refused.{Refused}
-use Rattle.sheetfile.specs.declared.parts.Reader.{Reader}
+use Rattle.sheetfile.specs.declared.reader.Reader.{Reader}
 
 -- Where a headed loader stands: its reader, the heading, and how many rows with how many entries it has read.
 pub record Stand : Type 0 where

@@ -7,8 +7,8 @@ use Rattle.refusals.specs.Faults.{fault_of}
 use Rattle.sources.specs.Meaning.{Meaning, empty_meaning}
 use Rattle.sources.specs.Sheets.{fill_verdict, sheet_of}
 use Rattle.sources.specs.Tables.{entries_of, entry_of, heading_of, starts_of}
-use Rattle.sources.specs.declared.form.Entry.{Entry}
-use Rattle.sources.specs.declared.form.Heading.{Heading}
+use Rattle.sources.specs.declared.records.Entry.{Entry}
+use Rattle.sources.specs.declared.records.Heading.{Heading}
 use Rattle.sheetfile.specs.Layout.{Row, entries_in}
 use Rattle.sheetfile.specs.Reading.{loaded}
 use Rattle.sheetfile.specs.Steps.{updated}

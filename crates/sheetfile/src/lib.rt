@@ -1,9 +1,15 @@
 //! The sheet file: read into lent tables, and written from any source.
 #![tactic(auto)]
 
-pub mod loader;
-pub mod owned;
-mod parts;
-pub mod rewriting;
-pub mod whole;
-pub mod writer;
+mod files;
+mod loader;
+mod owned;
+mod reader;
+mod rewriting;
+mod writer;
+
+pub use files::{MOST_BYTES, MOST_ENTRIES, MOST_STARTS, load, load_within, sheet_over};
+pub use loader::{Bare, Closed, Headed, Refused};
+pub use owned::OwnTables;
+pub use rewriting::rewrite;
+pub use writer::write;

@@ -8,11 +8,11 @@ ghost use Rattle.sheetfile.specs.Steps.{updated, without_value};
 ghost use Rattle.sheetfile.specs.Tables.{HoldsRows, row_count};
 ghost use Rattle.sources.specs.Meaning.{Meaning};
 ghost use Rattle.sources.specs.Tables.{heading_of};
-ghost use Rattle.sources.specs.declared.form.Entry.{Entry};
+ghost use Rattle.sources.specs.declared.records.Entry.{Entry};
 
-use crate::parts::Reader;
+use crate::reader::Reader;
 use refusals::{Fault, Refusal};
-use sources::form::{Entry, Heading};
+use sources::{Entry, Heading};
 
 /// A loader to which a step was refused. It is as it was, and can be used again.
 #[derive(Drop)]

@@ -7,10 +7,9 @@ ghost use Rattle.sheetfile.specs.Reading.{loaded};
 ghost use Rattle.sheetfile.specs.Steps.{updated, without_value};
 ghost use Rattle.sheetfile.specs.Tables.{sheet_held};
 
-use crate::whole::{MOST_STARTS, load, load_over, sheet_over};
+use crate::files::{MOST_STARTS, load, load_over, sheet_over};
 use refusals::Fault;
-use sources::form::{Entry, Heading};
-use sources::sheet::Sheet;
+use sources::{Entry, Heading, Sheet};
 
 /// Both tables of a sheet, with room for 128 carriers and so many entries. What they hold is a sheet; nothing else of them can be seen.
 #[derive(Drop)]

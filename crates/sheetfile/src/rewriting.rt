@@ -4,10 +4,10 @@ ghost use Rattle.sheetfile.specs.Steps.{updated};
 ghost use Rattle.sheetfile.specs.Tables.{entries_after, starts_after};
 ghost use Rattle.sheetfile.specs.Writing.{out_after, rewrite_answer};
 
-use crate::whole::{load_surveyed, sheet_over, survey};
+use crate::files::{load_surveyed, sheet_over, survey};
 use crate::writer::write;
 use refusals::{Fault, Refusal};
-use sources::form::Entry;
+use sources::Entry;
 
 /// Loads a file into the tables and writes it again. What is accepted comes out as the same bytes, so a buffer that is
 /// shorter than they are is refused before anything is written. Where it is refused, the tables and the buffer stay as

@@ -14,9 +14,7 @@ ghost use Rattle.sources.specs.Tables.{heading_of};
 use numbers::{MOST_GROUPS, write_number};
 use outputs::Output;
 use refusals::Refusal;
-use sources::asking::{entries, heading_of};
-use sources::checks::within_limits;
-use sources::source::Source;
+use sources::{Source, entries, heading_of, within_limits};
 
 // Puts a number.
 fn put_number(output: &mut Output<'_>, n: u64)
@@ -42,7 +40,7 @@ fn put_entry(output: &mut Output<'_>, job: usize, worth: u64)
 }
 
 // How many entries of a row are worth something.
-fn row_count<S: Source>(source: &S, carrier: usize) -> usize
+fn nonzero_count<S: Source>(source: &S, carrier: usize) -> usize
     ensures { result ≡ length (nonzero (row_of (S.Source.meaning source.now) carrier)) }
 {
     entries(source, carrier)
@@ -57,7 +55,7 @@ fn put_row<S: Source>(source: &S, carrier: usize, output: &mut Output<'_>) -> us
     ensures count { result ≡ length (nonzero (row_of (S.Source.meaning source.now) carrier)) }
     ensures row { Puts output.old output.new (row_bytes (nonzero (row_of (S.Source.meaning source.now) carrier))) }
 {
-    let count = row_count(source, carrier);
+    let count = nonzero_count(source, carrier);
     put_number(output, count as u64);
     for (job, worth) in entries(source, carrier) {
         put_entry(output, job, worth);

@@ -4,7 +4,7 @@ use Rattle.std.specs.Option.{option_map, option_and_then}
 use Rattle.std.specs.List.{slice_get}
 use Rattle.std.proofs.lemmas.Option.{slice_get-map, slice_get-get_or, slice_get_past}
 use Rattle.std.proofs.lemmas.List.FromFn.{length-map-range_with_len}
-use Rattle.sources.specs.declared.place.Place.{Place}
+use Rattle.sources.specs.declared.places.Place.{Place}
 use Rattle.sources.specs.Meaning.{row_len, entry_at}
 use Rattle.sources.specs.Travel.{worth_between, no_place, position_row, positions_of}
 use Rattle.sources.specs.Laws.Indexed.{nth_made, nth_not_made}

@@ -9,8 +9,8 @@ use Rattle.std.proofs.lemmas.List.Sorted.{non_decreasing_from_is_sorted}
 use Rattle.std.proofs.lemmas.List.{get_or_default}
 use Rattle.std.proofs.lemmas.Bool.{both_ways, eq-eqb, ne_eqb, le-ltb, lt-ltb, or_left, or_right, cases_Bool, cases_eq, cases_lt}
 use Rattle.std.proofs.Math.Bool.{or-false}
-use Rattle.sources.specs.declared.form.Entry.{Entry}
-use Rattle.sources.specs.declared.form.Heading.{Heading}
+use Rattle.sources.specs.declared.records.Entry.{Entry}
+use Rattle.sources.specs.declared.records.Heading.{Heading}
 use Rattle.refusals.specs.declared.Refusal.{Refusal}
 use Rattle.sources.specs.Sheets.{never_falls, last_of, starts_good, has_start, job_at, in_order, first_refusal}
 use Rattle.sources.specs.Laws.Starts.{never_falls_lem}

@@ -9,10 +9,10 @@ use Rattle.std.proofs.ByRecursion.{All-append, All-get_or}
 use Rattle.std.proofs.lemmas.Bool.{false≢true, cases_lt, cases_eq, cond-true, eq-eqb, lt-ltb, le-leb, and_from, or_left, or_right}
 use Rattle.refusals.specs.declared.Refusal.{Refusal}
 use Rattle.refusals.specs.declared.Refusal.TheVariants.{CountsOutside, JobOutOfOrder, WorthOutside, StartsUnfit}
-use Rattle.sources.specs.declared.form.Entry.{Entry}
-use Rattle.sources.specs.declared.form.Heading.{Heading}
+use Rattle.sources.specs.declared.records.Entry.{Entry}
+use Rattle.sources.specs.declared.records.Heading.{Heading}
 use Rattle.sources.specs.Meaning.{Meaning, Rising}
-use Rattle.sources.specs.Sheets.{within_limits, blank, starts_good, last_of, has_start, no_entry, job_at, worth_at, in_order, refusal_at, listed, entry_refusal, unless, or_refused, fill_verdict, pair_of, sheet_row, sheet_of}
+use Rattle.sources.specs.Sheets.{within_limits, blank, starts_good, last_of, has_start, no_entry, job_at, worth_at, in_order, refusal_at, entries_in_rows, entry_refusal, unless, or_refused, fill_verdict, pair_of, sheet_row, sheet_of}
 use Rattle.sources.specs.Tables.{heading_of, entry_of, ends_of, starts_of, entries_of, TablesOf, Fillable, FillsExactly}
 use Rattle.sources.specs.Laws.Starts.{Started, started, mono}
 use Rattle.sources.specs.Laws.SheetSound.{length_row, sheet_nonzero, sheet_sound}
@@ -85,7 +85,7 @@ module _ (m : Meaning) (good : Fillable m) (rest : List Entry) where
   last_is : last_of (heading_of m) (starts_of m.rows) ≡ length (entries_of m.rows)
   last_is = ap (λ n. get_or (starts_of m.rows) n 0) (sym good.sound.counted) ∙ ends_last 0 m.rows ∙ (let z : 0 + length (entries_of m.rows) ≡ length (entries_of m.rows) = omega arith in z)
 
-  listed_is : listed (heading_of m) (starts_of m.rows) (entries_of m.rows ++ rest) ≡ entries_of m.rows
+  listed_is : entries_in_rows (heading_of m) (starts_of m.rows) (entries_of m.rows ++ rest) ≡ entries_of m.rows
   listed_is = take_at (entries_of m.rows) rest (last_of (heading_of m) (starts_of m.rows)) (sym last_is)
 
   starts_good_lem : starts_good (heading_of m) (starts_of m.rows) (length (entries_of m.rows ++ rest)) ≡ true
@@ -113,8 +113,8 @@ module _ (m : Meaning) (good : Fillable m) (rest : List Entry) where
       let h = heading_of m in
       let ss = starts_of m.rows in
       let es = entries_of m.rows ++ rest in
-      ap or_refused (cond-true (within_limits h) (unless (starts_good h ss (length es)) StartsUnfit (entry_refusal h ss (listed h ss es))) (Some CountsOutside) good.limited
-      ∙ cond-true (starts_good h ss (length es)) (entry_refusal h ss (listed h ss es)) (Some StartsUnfit) starts_good_lem
+      ap or_refused (cond-true (within_limits h) (unless (starts_good h ss (length es)) StartsUnfit (entry_refusal h ss (entries_in_rows h ss es))) (Some CountsOutside) good.limited
+      ∙ cond-true (starts_good h ss (length es)) (entry_refusal h ss (entries_in_rows h ss es)) (Some StartsUnfit) starts_good_lem
       ∙ ap (entry_refusal h ss) listed_is ∙ sym (refused_nowhere (refusal_at h ss (entries_of m.rows)) (length (entries_of m.rows)) (length (entries_of m.rows)) none_at (omega arith)))
 
 -- ---- and they mean that meaning
@@ -153,7 +153,7 @@ means m rest counted =
 
 -- ---- what is accepted is such tables
 
-module _ (h : Heading) (starts : List ℕ) (entries : List Entry) (s : Started h starts (length entries)) (faultless : is_some (entry_refusal h starts (listed h starts entries)) ≡ false) where
+module _ (h : Heading) (starts : List ℕ) (entries : List Entry) (s : Started h starts (length entries)) (faultless : is_some (entry_refusal h starts (entries_in_rows h starts entries)) ≡ false) where
   -- the rows from the i-th on
   abbrev from : ℕ → ℕ → List (List (ℕ × ℕ))
   from i n = map (map pair_of) (map (sheet_row starts entries) (range_with_len i n))
@@ -212,7 +212,7 @@ ok_parts false b o e = absurd (false≢true e)
 module _ (h : Heading) (starts : List ℕ) (entries : List Entry) where
   only : is_ok (fill_verdict h starts entries) ≡ true → Fillable (sheet_of h starts entries) × TablesOf (sheet_of h starts entries) h starts entries
   only ok =
-      let p = ok_parts (within_limits h) (starts_good h starts (length entries)) (entry_refusal h starts (listed h starts entries)) ok in
+      let p = ok_parts (within_limits h) (starts_good h starts (length entries)) (entry_refusal h starts (entries_in_rows h starts entries)) ok in
       let s = started h starts (length entries) p.1 in (
         record { sound = sheet_sound h starts entries (or_left (within_limits h) (blank h) p.0) p.1 p.2; limited = p.0; nonzero = sheet_nonzero h starts entries s p.2 },
         tables_of h starts entries s p.2,

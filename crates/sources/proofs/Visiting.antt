@@ -9,10 +9,10 @@ use Rattle.std.proofs.lemmas.Option.{get_or_from_slice_get}
 use Rattle.std.proofs.ByRecursion.{All-take, All-drop}
 use Rattle.std.proofs.Math.Seq.{drop-cons}
 use Rattle.std.proofs.lemmas.List.Sums.{fold_more}
-use Rattle.sources.specs.declared.revaluing.Revaluing.{Revaluing}
+use Rattle.sources.specs.declared.layers.revaluing.Revaluing.{Revaluing}
 use Rattle.sources.specs.Meaning.{Meaning, row_of}
 use Rattle.sources.specs.Layers.{revalued_entry, revalued_row, revalued, scaled}
-use Rattle.sources.specs.declared.form.Entry.{Entry}
+use Rattle.sources.specs.declared.records.Entry.{Entry}
 use Rattle.sources.specs.Sheets.{pair_of}
 
 -- So many places from one on, as far as there are such places.

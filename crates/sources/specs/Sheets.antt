@@ -4,8 +4,8 @@ use Rattle.std.specs.Option.{option_or}
 use Rattle.std.specs.List.{list_any, range_with_len}
 use Rattle.refusals.specs.declared.Refusal.{Refusal}
 use Rattle.refusals.specs.declared.Refusal.TheVariants.{CountsOutside, JobOutOfOrder, WorthOutside, StartsUnfit}
-use Rattle.sources.specs.declared.form.Entry.{Entry}
-use Rattle.sources.specs.declared.form.Heading.{Heading}
+use Rattle.sources.specs.declared.records.Entry.{Entry}
+use Rattle.sources.specs.declared.records.Heading.{Heading}
 use Rattle.sources.specs.Limits.{most_carriers, most_jobs, highest_ceiling}
 use Rattle.sources.specs.Meaning.{Meaning}
 
@@ -63,8 +63,8 @@ first_refusal f k zero = None
 first_refusal f k (suc n) = option_or (f k) (first_refusal f (k + 1) n)
 
 -- The entries that stand in a row.
-abbrev pub listed : Heading → List ℕ → List Entry → List Entry
-listed h starts entries = take (last_of h starts) entries
+abbrev pub entries_in_rows : Heading → List ℕ → List Entry → List Entry
+entries_in_rows h starts entries = take (last_of h starts) entries
 
 -- What the first bad entry is refused for.
 abbrev pub entry_refusal : Heading → List ℕ → List Entry → Option Refusal
@@ -75,7 +75,7 @@ abbrev pub fill_refusal : Heading → List ℕ → List Entry → Option Refusal
 fill_refusal h starts entries =
     unless (within_limits h) CountsOutside
     (unless (starts_good h starts (length entries)) StartsUnfit
-    (entry_refusal h starts (listed h starts entries)))
+    (entry_refusal h starts (entries_in_rows h starts entries)))
 
 abbrev pub or_refused : Option Refusal → Result (Unit {0}) Refusal
 or_refused None = Ok tt

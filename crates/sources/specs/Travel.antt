@@ -1,7 +1,7 @@
 -- What carriers and jobs at places mean as a source: the nearer a job, the more it is worth.
 use Rattle.std.specs.Prelude.{ℕ, ◌+◌, ◌-◌, ◌*◌, List, map, length, slice_index_or}
 use Rattle.std.specs.List.{range_with_len}
-use Rattle.sources.specs.declared.place.Place.{Place}
+use Rattle.sources.specs.declared.places.Place.{Place}
 use Rattle.sources.specs.Meaning.{Meaning}
 
 -- How far two numbers lie apart; one of the two differences stops at 0.

@@ -1,7 +1,7 @@
 //! The auction of three carriers and three jobs that is shown call by call: rows 5 10 1, 4 11 3 and 5 14 8.
 #![tactic(auto)]
 
-use sources::form::{Entry, Heading};
+use sources::{Entry, Heading};
 
 /// Its heading.
 pub const HEADING: Heading = Heading {

@@ -1,12 +1,11 @@
 //! Summonses, looks and settles, those of a run too: what each of them has to alter.
 use crate::bids::{check_found, seen_further};
 use crate::laws::{Checks, Law};
+use crate::snapshot::Snapshot;
 use crate::state::State;
 use crate::terms::Terms;
-use crate::told::Told;
 use crate::verdicts::OpenBid;
-use auction::call::{Answer, Call};
-use auction::standing::{Act, Award, Bid, Held, Standing, Verdict};
+use auction::{Act, Answer, Award, Bid, Call, Held, Standing, Verdict};
 
 // The call of an act.
 pub(crate) fn call_of(act: Act, carrier: usize) -> Call {
@@ -28,7 +27,7 @@ pub(crate) fn act_of(call: Call) -> Option<(Act, usize)> {
 }
 
 // What the hall has to tell after an award.
-fn awarded(terms: &Terms, before: &Told, carrier: usize, award: Award) -> Told {
+fn awarded(terms: &Terms, before: &Snapshot, carrier: usize, award: Award) -> Snapshot {
     let worth = terms.grid.worth(carrier, award.job);
     let mut told = *before;
     if let Some(former) = award.displaced {
@@ -55,7 +54,7 @@ fn awarded(terms: &Terms, before: &Told, carrier: usize, award: Award) -> Told {
 }
 
 // What the hall has to tell after a verdict.
-fn carried_out(terms: &Terms, before: &Told, carrier: usize, verdict: Verdict) -> Told {
+fn carried_out(terms: &Terms, before: &Snapshot, carrier: usize, verdict: Verdict) -> Snapshot {
     let mut told = *before;
     match verdict {
         Verdict::Out => {
@@ -75,7 +74,7 @@ fn after_summons(
     checks: &mut Checks,
     before: &State,
     carrier: usize,
-    told: Told,
+    told: Snapshot,
 ) -> Result<State, Law> {
     let seen = [None; 4];
     let bid = Bid {
@@ -95,7 +94,7 @@ fn after_look(
     terms: &Terms,
     before: &State,
     carrier: usize,
-    told: Told,
+    told: Snapshot,
 ) -> Result<State, Law> {
     let seen = seen_further(terms, before, carrier);
     let wanted = before.told.with_standing(carrier, told.standing(carrier));
@@ -111,7 +110,7 @@ fn after_settle(
     before: &State,
     carrier: usize,
     verdict: Verdict,
-    told: Told,
+    told: Snapshot,
 ) -> Result<State, Law> {
     check_found(checks, terms, &before.told, carrier, &before.seen(carrier))?;
     let bid = OpenBid {
@@ -132,7 +131,7 @@ pub(crate) fn after_act(
     before: &State,
     (act, carrier): (Act, usize),
     answer: Answer,
-    told: Told,
+    told: Snapshot,
 ) -> Result<State, Law> {
     match (act, answer) {
         (Act::Summon, Answer::Accepted) => after_summons(checks, before, carrier, told),

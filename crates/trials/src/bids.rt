@@ -1,9 +1,9 @@
 //! An open bid, reckoned anew from all the prices that it has seen.
 use crate::laws::{Checks, Law};
+use crate::snapshot::Snapshot;
 use crate::state::State;
 use crate::terms::Terms;
-use crate::told::Told;
-use auction::standing::{Best, Bid, Standing};
+use auction::{Best, Bid, Standing};
 
 // What each job cost when an open bid saw it, if the bid has looked at it.
 pub(crate) type PricesSeen = [Option<u64>; 4];
@@ -90,7 +90,7 @@ pub(crate) fn seen_further(terms: &Terms, before: &State, carrier: usize) -> Pri
 pub(crate) fn check_found(
     checks: &mut Checks,
     terms: &Terms,
-    told: &Told,
+    told: &Snapshot,
     carrier: usize,
     seen: &PricesSeen,
 ) -> Result<(), Law> {

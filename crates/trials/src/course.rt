@@ -5,15 +5,13 @@ use crate::laws::{Checks, Law};
 use crate::pairings::{check_spent, check_state};
 use crate::refused::{check_never_started, refusal_of};
 use crate::runs::{Inside, is_report_right};
+use crate::snapshot::Snapshot;
 use crate::state::State;
 use crate::terms::{Layers, Terms};
-use crate::told::Told;
-use auction::call::{Answer, Call};
-use auction::standing::{Ending, Report};
-use hall::hall::Hall;
-use hall::replay::replay;
+use auction::{Answer, Call, Ending, Report};
+use hall::{Hall, replay};
 use refusals::Refusal;
-use sources::source::Source;
+use sources::Source;
 use std::fmt;
 
 // How many calls are replayed before the others are performed.
@@ -60,7 +58,7 @@ impl<S: Source + Drop> Course<'_, S> {
         number: usize,
         (depth, budget): (usize, u64),
         report: Report,
-        told: Told,
+        told: Snapshot,
     ) -> Result<State, Law> {
         let is_right = is_report_right(&before.told, &told, (depth, budget), report);
         checks.hold(Law::Report, is_right)?;
@@ -87,7 +85,7 @@ impl<S: Source + Drop> Course<'_, S> {
         number: usize,
         call: Call,
         answer: Answer,
-        told: Told,
+        told: Snapshot,
     ) -> Result<State, Law> {
         if let Some(act) = act_of(call) {
             return after_act(checks, self.terms, before, act, answer, told);
@@ -129,7 +127,7 @@ impl<S: Source + Drop> Course<'_, S> {
             check_never_started(checks, hall)?;
             return Ok(None);
         };
-        let told = Told::ask(hall, self.terms).map_err(|_| Law::Answer)?;
+        let told = Snapshot::ask(hall, self.terms).map_err(|_| Law::Answer)?;
         let after = match (call, answer) {
             (Call::Start { .. }, Ok(answer)) => {
                 let is_fresh = answer == Answer::Accepted && told == begun.told;
@@ -218,7 +216,7 @@ impl<S: Source + Drop> Course<'_, S> {
 }
 
 // Whether a question is answered with what the hall tells.
-fn is_told(told: &Told, call: Call, answer: Answer) -> bool {
+fn is_told(told: &Snapshot, call: Call, answer: Answer) -> bool {
     match (call, answer) {
         (Call::PriceOf(job), Answer::Price(price)) => price == told.price(job),
         (Call::HolderOf(job), Answer::Holder(holder)) => holder == told.holder(job),

@@ -1,9 +1,9 @@
 //! What is drawn for a trial: a grid, layers and a list of calls; and the tables of the grid's sheet.
-use auction::call::{Answer, Call};
+use auction::{Answer, Call};
 use grids::Grid;
 use grids::draws::Draw;
 use refusals::Refusal;
-use sources::form::Entry;
+use sources::Entry;
 use std::alloc::{AllocError, Global};
 
 // How many calls a list has.

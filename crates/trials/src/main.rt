@@ -11,9 +11,9 @@ mod laws;
 mod pairings;
 mod refused;
 mod runs;
+mod snapshot;
 mod state;
 mod terms;
-mod told;
 mod verdicts;
 
 use anyhow::{Context, bail, ensure};
@@ -21,11 +21,7 @@ use course::Course;
 use drawn::{CALLS, Trial, tables_of};
 use grids::draws::Draw;
 use laws::{Checks, LAWS};
-use sources::floor::Floor;
-use sources::form::Heading;
-use sources::sheet::Sheet;
-use sources::source::Source;
-use sources::times::Times;
+use sources::{Floor, Heading, Sheet, Source, Times};
 use std::{env, io};
 use terms::{Layers, Terms};
 

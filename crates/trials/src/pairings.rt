@@ -1,13 +1,13 @@
 //! What has to hold of an auction after each call: the pairing, beside a search through all pairings, the prices and the counts.
 use crate::laws::{Checks, Law};
+use crate::snapshot::Snapshot;
 use crate::state::State;
 use crate::terms::Terms;
-use crate::told::Told;
-use auction::standing::{Held, Standing};
+use auction::{Held, Standing};
 use grids::Grid;
 
 // What the served carriers' jobs are worth to them, by these worths.
-fn pairing_worth(told: &Told, grid: &Grid) -> u64 {
+fn pairing_worth(told: &Snapshot, grid: &Grid) -> u64 {
     let mut worth = 0u64;
     for (carrier, standing) in told.standings.iter().enumerate() {
         if let Standing::Served(held) = *standing {
@@ -18,7 +18,7 @@ fn pairing_worth(told: &Told, grid: &Grid) -> u64 {
 }
 
 // How many carriers are served.
-fn served(told: &Told) -> u64 {
+fn served(told: &Snapshot) -> u64 {
     let served = told
         .standings
         .iter()
@@ -27,7 +27,7 @@ fn served(told: &Told) -> u64 {
 }
 
 // A job's holder is served with it, and a job without one costs nothing.
-fn check_jobs(checks: &mut Checks, told: &Told) -> Result<(), Law> {
+fn check_jobs(checks: &mut Checks, told: &Snapshot) -> Result<(), Law> {
     for (job, (holder, price)) in told.holders.iter().zip(&told.prices).enumerate() {
         let holds = match *holder {
             None => *price == 0,
@@ -63,7 +63,12 @@ fn check_served(
 }
 
 // Who is out would gain nothing at the prices now.
-fn check_out(checks: &mut Checks, terms: &Terms, told: &Told, carrier: usize) -> Result<(), Law> {
+fn check_out(
+    checks: &mut Checks,
+    terms: &Terms,
+    told: &Snapshot,
+    carrier: usize,
+) -> Result<(), Law> {
     let gains_nothing = |job| terms.grid.worth(carrier, job) <= told.price(job);
     checks.hold(Law::LeftOut, (0..4).all(gains_nothing))
 }
@@ -104,7 +109,7 @@ fn is_exact(terms: &Terms, state: &State) -> bool {
 }
 
 // Whether no pairing of the carriers served or out is worth more than the hall's, counted below the times layer.
-fn is_best_below(terms: &Terms, told: &Told) -> bool {
+fn is_best_below(terms: &Terms, told: &Snapshot) -> bool {
     terms.below.only(&told.done()).best() == pairing_worth(told, &terms.below)
 }
 

@@ -1,13 +1,12 @@
 //! Which calls the rules refuse.
 use crate::acts::act_of;
 use crate::laws::{Checks, Law};
+use crate::snapshot::Snapshot;
 use crate::terms::Terms;
-use crate::told::Told;
-use auction::call::Call;
-use auction::standing::{Act, Standing};
-use hall::hall::Hall;
+use auction::{Act, Call, Standing};
+use hall::Hall;
 use refusals::Refusal;
-use sources::source::Source;
+use sources::Source;
 
 // Why the rules refuse a start, if they do. The counts of the sheets drawn are within the limits.
 fn refusal_of_start(step: u64, lanes: usize) -> Option<Refusal> {
@@ -18,7 +17,7 @@ fn refusal_of_start(step: u64, lanes: usize) -> Option<Refusal> {
 }
 
 // Why the rules refuse a summons, a look or a settle, if they do.
-fn refusal_of_act(terms: &Terms, before: &Told, carrier: usize, act: Act) -> Option<Refusal> {
+fn refusal_of_act(terms: &Terms, before: &Snapshot, carrier: usize, act: Act) -> Option<Refusal> {
     if carrier >= terms.grid.carriers {
         return Some(Refusal::NoSuchCarrier);
     }
@@ -35,7 +34,7 @@ fn refusal_of_act(terms: &Terms, before: &Told, carrier: usize, act: Act) -> Opt
 }
 
 // Why the rules refuse a call, if they do. `before` is what the hall told before it, if it was started.
-pub(crate) fn refusal_of(terms: &Terms, before: Option<&Told>, call: Call) -> Option<Refusal> {
+pub(crate) fn refusal_of(terms: &Terms, before: Option<&Snapshot>, call: Call) -> Option<Refusal> {
     if let Call::Start { step, lanes } = call {
         return refusal_of_start(step, lanes);
     }

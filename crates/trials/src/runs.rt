@@ -3,15 +3,13 @@
 use crate::acts::{after_act, call_of};
 use crate::drawn::NO_ANSWERS;
 use crate::laws::{Checks, Law};
+use crate::snapshot::Snapshot;
 use crate::state::State;
 use crate::terms::Terms;
-use crate::told::Told;
 use crate::verdicts::OpenBid;
-use auction::call::{Answer, Call};
-use auction::standing::{Act, Counts, Ending, Report, Standing};
-use hall::hall::Hall;
-use hall::replay::replay;
-use sources::source::Source;
+use auction::{Act, Answer, Call, Counts, Ending, Report, Standing};
+use hall::{Hall, replay};
+use sources::Source;
 
 // The calls before a run on a source, and the run's depth.
 #[derive(Drop)]
@@ -38,7 +36,7 @@ fn ended(counts: Counts) -> u64 {
 }
 
 // The act between two states that are one step apart, and its carrier. A summons opens a bid, a settle ends one, and a look alters one.
-fn act_between(before: &Told, after: &Told) -> Option<(Act, usize)> {
+fn act_between(before: &Snapshot, after: &Snapshot) -> Option<(Act, usize)> {
     let mut pairs = before.standings.iter().zip(&after.standings);
     if after.counts.summonses > before.counts.summonses {
         let opened = pairs.position(|(old, new)| !is_open(*old) && is_open(*new));
@@ -64,7 +62,7 @@ struct Turns {
 }
 
 impl Turns {
-    fn new(depth: usize, before: &Told) -> Turns {
+    fn new(depth: usize, before: &Snapshot) -> Turns {
         Turns {
             depth,
             begun_with: before.bidding(),
@@ -94,7 +92,7 @@ impl Turns {
     fn check_act(
         &self,
         checks: &mut Checks,
-        before: &Told,
+        before: &Snapshot,
         (act, carrier): (Act, usize),
     ) -> Result<(), Law> {
         let has_room = before.waiting() > 0 && before.bidding() < self.depth;
@@ -107,7 +105,7 @@ impl Turns {
     }
 
     // Notes a step: its carrier acted, and who waits now and did not before begins to wait.
-    fn note(&mut self, step: u64, carrier: usize, before: &Told, after: &Told) {
+    fn note(&mut self, step: u64, carrier: usize, before: &Snapshot, after: &Snapshot) {
         let now = step.saturating_add(4);
         for (other, since) in self.since.iter_mut().enumerate() {
             if other == carrier || (after.waits(other) && !before.waits(other)) {
@@ -159,11 +157,11 @@ impl<S: Source + Drop> Inside<'_, S> {
     }
 
     // What the hall tells after a run with a smaller budget, which makes as many steps as that.
-    fn told_after(&self, checks: &mut Checks, steps: u64) -> Result<Told, Law> {
+    fn told_after(&self, checks: &mut Checks, steps: u64) -> Result<Snapshot, Law> {
         let mut hall = self.hall_before();
         let made = hall.run(self.depth, steps).map(|report| report.steps);
         checks.hold(Law::Steps, made == Ok(steps))?;
-        Told::ask(&hall, self.terms).map_err(|_| Law::Answer)
+        Snapshot::ask(&hall, self.terms).map_err(|_| Law::Answer)
     }
 
     // Makes the next act on a hall that has made those before it, and checks it. `told` is what the run's own hall tells after it.
@@ -173,14 +171,14 @@ impl<S: Source + Drop> Inside<'_, S> {
         hall: &mut Hall<&S>,
         turns: &Turns,
         before: &State,
-        told: Told,
+        told: Snapshot,
     ) -> Result<(State, usize), Law> {
         let (act, carrier) = act_between(&before.told, &told).ok_or(Law::Steps)?;
         turns.check_act(checks, &before.told, (act, carrier))?;
         let answer = hall
             .perform(call_of(act, carrier))
             .map_err(|_| Law::MadeOf)?;
-        checks.hold(Law::MadeOf, Told::ask(hall, self.terms) == Ok(told))?;
+        checks.hold(Law::MadeOf, Snapshot::ask(hall, self.terms) == Ok(told))?;
         if turns.is_sequential() {
             check_round(checks, self.terms, before, (act, carrier), answer)?;
         }
@@ -222,8 +220,8 @@ fn adds_up(before: u64, told: u64, after: u64) -> bool {
 // A run is done exactly if nobody waits or bids after it, and spent only if its steps equal the budget. It counts what the hall's counts
 // moved by, and each took a step of its own. At depth 1, begun with no open bid, no bid is stale.
 pub(crate) fn is_report_right(
-    before: &Told,
-    after: &Told,
+    before: &Snapshot,
+    after: &Snapshot,
     (depth, budget): (usize, u64),
     report: Report,
 ) -> bool {

@@ -1,7 +1,7 @@
 //! An auction as the trials know it: what the hall tells, and what they noted of the calls that led there.
 use crate::bids::PricesSeen;
+use crate::snapshot::Snapshot;
 use crate::terms::Terms;
-use crate::told::Told;
 
 // `step` and `lanes` are those of the start that was accepted last. `calm_since` has for each carrier how many jobs were awarded when it
 // last had no open bid, and `seen` what its open bid has seen.
@@ -9,7 +9,7 @@ use crate::told::Told;
 pub(crate) struct State {
     pub(crate) step: u64,
     pub(crate) lanes: usize,
-    pub(crate) told: Told,
+    pub(crate) told: Snapshot,
     pub(crate) calm_since: [u64; 4],
     pub(crate) seen: [PricesSeen; 4],
 }
@@ -20,7 +20,7 @@ impl State {
         State {
             step,
             lanes,
-            told: Told::started(&terms.grid),
+            told: Snapshot::started(&terms.grid),
             calm_since: [0; 4],
             seen: [[None; 4]; 4],
         }
@@ -37,7 +37,7 @@ impl State {
     }
 
     // The state after an act, in which the hall tells this, and the carrier's open bid, if it still has one, has seen so much.
-    pub(crate) fn after(&self, told: Told, carrier: usize, seen: PricesSeen) -> State {
+    pub(crate) fn after(&self, told: Snapshot, carrier: usize, seen: PricesSeen) -> State {
         let mut state = State { told, ..*self };
         if let Some(place) = state.seen.get_mut(carrier) {
             *place = seen;

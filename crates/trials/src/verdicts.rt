@@ -3,7 +3,7 @@ use crate::bids::{best_of, bid_of, natural, nets_at, runner_up_of, signed};
 use crate::laws::{Checks, Law};
 use crate::state::State;
 use crate::terms::Terms;
-use auction::standing::{Award, Best, Bid, Verdict};
+use auction::{Award, Best, Bid, Verdict};
 
 // A carrier's open bid, in the state just before it is settled.
 #[derive(Clone, Copy)]

@@ -2,10 +2,9 @@
 #![tactic(auto)]
 
 use anyhow::anyhow;
-use auction::call::Call;
-use hall::hall::Hall;
-use sources::sheet::Sheet;
-use sources::source::Source;
+use auction::Call;
+use hall::Hall;
+use sources::{Sheet, Source};
 use std::io;
 use three_by_three::{ENTRIES, HEADING, STARTS};
 

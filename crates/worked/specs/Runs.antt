@@ -2,15 +2,15 @@
 use Rattle.std.specs.Prelude.{◌≡◌, ℕ, ◌+◌, ◌*◌, ◌≤◌, List, [], ◌∷◌, map, ℤ, pos, negsuc, Some, None, Ok, Option, Result, IsSomeAnd}
 use Rattle.refusals.specs.declared.Refusal.{Refusal}
 use Rattle.sources.specs.Meaning.{Meaning}
-use Rattle.auction.specs.declared.call.Call.{Call}
-use Rattle.auction.specs.declared.call.Call.TheVariants.{Start, Summon, Settle, Run, PriceOf, HolderOf, StandingOf, TotalWorth}
-use Rattle.auction.specs.declared.call.Answer.{Answer}
-use Rattle.auction.specs.declared.call.Answer.TheVariants.{Accepted, Settled, Ran, Price, Holder, Stands, Worth}
-use Rattle.auction.specs.declared.standing.Bid.{Bid}
-use Rattle.auction.specs.declared.standing.Ending.{Ending}
-use Rattle.auction.specs.declared.standing.Ending.TheVariants.{Done, Spent}
-use Rattle.auction.specs.declared.standing.Standing.TheVariants.{Waiting, Bidding, Served, Out}
-use Rattle.auction.specs.declared.standing.Verdict.TheVariants.{Out as GoesOut, Stale}
+use Rattle.auction.specs.declared.calls.Call.{Call}
+use Rattle.auction.specs.declared.calls.Call.TheVariants.{Start, Summon, Settle, Run, PriceOf, HolderOf, StandingOf, TotalWorth}
+use Rattle.auction.specs.declared.calls.Answer.{Answer}
+use Rattle.auction.specs.declared.calls.Answer.TheVariants.{Accepted, Settled, Ran, Price, Holder, Stands, Worth}
+use Rattle.auction.specs.declared.bidding.Bid.{Bid}
+use Rattle.auction.specs.declared.bidding.Ending.{Ending}
+use Rattle.auction.specs.declared.bidding.Ending.TheVariants.{Done, Spent}
+use Rattle.auction.specs.declared.bidding.Standing.TheVariants.{Waiting, Bidding, Served, Out}
+use Rattle.auction.specs.declared.bidding.Verdict.TheVariants.{Out as GoesOut, Stale}
 use Rattle.auction.specs.Calls.{answers_from}
 use Rattle.auction.specs.Bids.{offer, judged}
 use Rattle.auction.specs.Laws.{Pairing, worth}

@@ -9,8 +9,8 @@ pub mod runs;
 
 use numbers::read_number;
 use refusals::Fault;
-use sheetfile::whole::load;
-use sources::form::{Entry, Heading};
+use sheetfile::load;
+use sources::{Entry, Heading};
 use three_by_three::FILE;
 
 /// What is read of the worked bytes of numbers.

@@ -5,11 +5,10 @@ ghost use Rattle.auction.specs.Calls.{answers_from};
 ghost use Rattle.worked.specs.Sheets.{three_by_three};
 ghost use Rattle.worked.specs.Runs.{Plays, StaleBid, WideRival, answers_in, calls_in, empty_row, net_above, net_below, net_zero, no_entries, one_by_one, one_job, smaller_job, three_in_flight, two_alike, wide, wide_step};
 
-use auction::call::{Answer, Call};
-use hall::replay::replay;
+use auction::{Answer, Call};
+use hall::replay;
 use refusals::Refusal;
-use sources::form::{Entry, Heading};
-use sources::sheet::Sheet;
+use sources::{Entry, Heading, Sheet};
 use three_by_three::{ENTRIES, HEADING, STARTS};
 
 // How the auctions start, but the one with a wider step.

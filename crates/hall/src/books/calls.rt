@@ -8,24 +8,20 @@ ghost use Rattle.auction.specs.Bids.{looked_on, judged, best_worth};
 ghost use Rattle.auction.specs.Consistent.{Limits};
 ghost use Rattle.auction.specs.Limits.{highest_step};
 ghost use Rattle.auction.specs.Looks.{Looks};
-ghost use Rattle.auction.specs.Rules.{opened, start_answer, start_tally, bid_at, called, summon_answer, summon_tally, look_answer, look_tally, freed, verdict_in, ended, settle_answer, settle_tally};
+ghost use Rattle.auction.specs.Rules.{tally_at_start, start_answer, start_tally, bid_at, called, summon_answer, summon_tally, look_answer, look_tally, freed, verdict_in, ended, settle_answer, settle_tally};
 ghost use Rattle.auction.specs.Standings.{BidSound, StandingSound};
 ghost use Rattle.auction.specs.Tally.{standing_at};
 ghost use Rattle.hall.specs.Glances.{lasts, wins_ties, follows};
 ghost use Rattle.hall.specs.InBooks.{NotedOf, tally_in};
-ghost use Rattle.hall.specs.Ruled.{Ruled};
+ghost use Rattle.hall.specs.Obeys.{Obeys};
 ghost use Rattle.hall.specs.Steps.{counts_after, standing_after, counts_ended, standing_ended, bid_from};
 
 use super::Books;
 use super::glance::Glance;
-use crate::weighing::{Seen, best_worth, merged};
-use auction::limits::{HIGHEST_STEP, MOST_LANES};
-use auction::standing::{Act, Award, Bid, Counts, Held, Standing, Verdict};
+use crate::ranking::{Ranked, best_worth, merged};
+use auction::{Act, Award, Bid, Counts, HIGHEST_STEP, Held, MOST_LANES, Standing, Verdict};
 use refusals::Refusal;
-use sources::asking::{heading_of, row_length};
-use sources::checks::{MOST_CARRIERS, MOST_JOBS, within_limits};
-use sources::form::Heading;
-use sources::source::Source;
+use sources::{Heading, MOST_CARRIERS, MOST_JOBS, Source, heading_of, row_length, within_limits};
 
 pub(crate) fn check_start<S: Source>(source: &S, step: u64, lanes: usize) -> Result<(), Refusal>
     ensures { result ≡ start_answer step lanes (S.meaning source.now) }
@@ -118,7 +114,7 @@ fn look_closely<S: Source>(
     requires inside { bid.old.looked + count ≤ length (row_of (S.meaning source.now) carrier) }
     ensures { let m = S.meaning source.now in bid.new ≡ looked_on count (take m.jobs prices.now) (row_of m carrier) bid.old }
 {
-    let mut seen = Seen::nothing();
+    let mut seen = Ranked::nothing();
     for place in bid.looked..bid.looked + count {
         let (job, worth) = source.entry(carrier, place).unwrap_or((0, 0));
         seen = seen.and(job, worth, prices[job]);
@@ -259,10 +255,10 @@ fn free(standings: &mut [Standing; MOST_CARRIERS], former: Option<usize>)
 
 impl Books {
     // Every price is 0, nobody holds a job, every carrier waits, and every count is 0.
-    pub(crate) fn fresh(heading: Heading, step: u64, lanes: usize) -> Self
+    pub(crate) fn new(heading: Heading, step: u64, lanes: usize) -> Self
         requires { Limits heading.carriers heading.jobs heading.ceiling step lanes }
         ensures noted { result.noted ≡ heading }
-        ensures opened { tally_in result ≡ opened heading.carriers heading.jobs step lanes }
+        ensures tallied { tally_in result ≡ tally_at_start heading.carriers heading.jobs step lanes }
     {
         Books {
             noted: heading,
@@ -302,7 +298,7 @@ impl Books {
     pub(crate) fn summon<S: Source>(&mut self, source: &S, carrier: usize) -> Result<(), Refusal>
         requires { NotedOf (S.meaning source.now) self.old }
         ensures noted { self.new.noted ≡ self.old.noted }
-        ensures ruled { Ruled (summon_answer carrier) (summon_tally carrier) (S.meaning source.now) (Some self.old) (Some self.new) result }
+        ensures ruled { Obeys (summon_answer carrier) (summon_tally carrier) (S.meaning source.now) (Some self.old) (Some self.new) result }
     {
         self.call_on(source, carrier, Act::Summon)?;
         Ok(())
@@ -311,7 +307,7 @@ impl Books {
     pub(crate) fn look<S: Source>(&mut self, source: &S, carrier: usize) -> Result<(), Refusal>
         requires { NotedOf (S.meaning source.now) self.old }
         ensures noted { self.new.noted ≡ self.old.noted }
-        ensures ruled { Ruled (look_answer carrier) (look_tally carrier) (S.meaning source.now) (Some self.old) (Some self.new) result }
+        ensures ruled { Obeys (look_answer carrier) (look_tally carrier) (S.meaning source.now) (Some self.old) (Some self.new) result }
         ensures looks { OnOk result (Looks (S.meaning source.now) carrier (tally_in self.old) (tally_in self.new)) }
     {
         self.call_on(source, carrier, Act::Look)?;
@@ -360,7 +356,7 @@ impl Books {
     ) -> Result<Verdict, Refusal>
         requires { NotedOf (S.meaning source.now) self.old }
         ensures noted { self.new.noted ≡ self.old.noted }
-        ensures ruled { Ruled (settle_answer carrier) (settle_tally carrier) (S.meaning source.now) (Some self.old) (Some self.new) result }
+        ensures ruled { Obeys (settle_answer carrier) (settle_tally carrier) (S.meaning source.now) (Some self.old) (Some self.new) result }
     {
         let bid = self.call_on(source, carrier, Act::Settle)?;
         Ok(self.end(carrier, bid))

@@ -3,10 +3,9 @@ ghost use Rattle.std.specs.Prelude.{◌≡◌, ◌+◌, ◌^◌, ◌<◌, ◌≤
 ghost use Rattle.auction.specs.Bids.{natural};
 ghost use Rattle.hall.specs.Glances.{top_net};
 
-use crate::weighing::either;
-use auction::standing::{Best, Bid};
-use sources::checks::MOST_JOBS;
-use sources::visitor::Visitor;
+use crate::ranking::either;
+use auction::{Best, Bid};
+use sources::{MOST_JOBS, Visitor};
 
 // What a bid comes to by the entries so far: the best net, the job of the entry that has it, and the runner-up. It begins with the
 // bid's own, and an entry counts only if its net is above that; until then the job is none. An entry of worth 0 has no net above 0,

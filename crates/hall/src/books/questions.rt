@@ -7,7 +7,7 @@ ghost use Rattle.auction.specs.Calls.{price_answer, holder_answer, standing_answ
 ghost use Rattle.hall.specs.InBooks.{NotedOf, tally_in};
 
 use super::Books;
-use auction::standing::{Counts, Standing};
+use auction::{Counts, Standing};
 use refusals::Refusal;
 
 // What a served carrier's job is worth to it.

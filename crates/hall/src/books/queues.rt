@@ -5,7 +5,7 @@ ghost use Rattle.rings.specs.Held.{held, room};
 ghost use Rattle.auction.specs.Standings.{in_flight};
 ghost use Rattle.sources.specs.Limits.{most_carriers};
 
-use auction::standing::{Ending, InFlight};
+use auction::{Ending, InFlight};
 use rings::Ring;
 
 // Each carrier has a place in both.

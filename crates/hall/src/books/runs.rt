@@ -7,17 +7,14 @@ ghost use Rattle.sources.specs.Limits.{most_carriers, most_jobs};
 ghost use Rattle.auction.specs.Limits.{most_lanes};
 ghost use Rattle.auction.specs.InOrder.{Ordered, Grown};
 ghost use Rattle.hall.specs.InBooks.{NotedOf, tally_in};
-ghost use Rattle.hall.specs.Ruled.{Ruled};
-ghost use Rattle.hall.specs.RunSteps.{state_of, Became};
+ghost use Rattle.hall.specs.Obeys.{Obeys};
+ghost use Rattle.hall.specs.RunSteps.{state_of, StepMade};
 
 use super::Books;
 use super::queues::Queues;
-use auction::limits::GREATEST_DEPTH;
-use auction::standing::{Counts, InFlight, Report, Standing, Verdict};
+use auction::{Counts, GREATEST_DEPTH, InFlight, Report, Standing, Verdict};
 use refusals::Refusal;
-use sources::asking::row_length;
-use sources::checks::MOST_CARRIERS;
-use sources::source::Source;
+use sources::{MOST_CARRIERS, Source, row_length};
 
 // How many looks go through so many entries.
 fn looks_for(lanes: usize, entries: usize) -> usize
@@ -64,7 +61,7 @@ impl Books {
         requires noted { NotedOf (S.meaning source.now) self.old }
         requires place { length (held queues.old.flight) < most_carriers }
         ensures { let m = S.meaning source.now in let line = held queues.old.line in let flight = held queues.old.flight in
-            Became m (λ n. step_by m true (carrier ∷ line) flight (tally_in self.old) n) self.new queues.new }
+            StepMade m (λ n. step_by m true (carrier ∷ line) flight (tally_in self.old) n) self.new queues.new }
     {
         let looks_left = looks_for(self.lanes, row_length(source, carrier));
         let _ = self.summon(source, carrier);
@@ -77,7 +74,7 @@ impl Books {
         requires line_place { length (held queues.old.line) < most_carriers }
         requires flight_place { length (held queues.old.flight) < most_carriers }
         ensures { let m = S.meaning source.now in let line = held queues.old.line in let flight = held queues.old.flight in
-            Became m (λ n. first_acts m first.carrier first.looks_left line flight (tally_in self.old) n) self.new queues.new }
+            StepMade m (λ n. first_acts m first.carrier first.looks_left line flight (tally_in self.old) n) self.new queues.new }
     {
         if first.looks_left > 0 {
             self.look_in_flight(source, first.carrier);
@@ -98,7 +95,7 @@ impl Books {
         requires busy { 0 < length (held queues.old.line) + length (held queues.old.flight) }
         requires deep { 1 ≤ depth }
         ensures { let m = S.meaning source.now in
-            Became m (λ n. one_step m depth (state_of self.old queues.old n)) self.new queues.new }
+            StepMade m (λ n. one_step m depth (state_of self.old queues.old n)) self.new queues.new }
     {
         if let Some(carrier) = queues.next_to_summon(depth) {
             self.summon_first(source, carrier, queues);
@@ -137,7 +134,7 @@ impl Books {
         requires noted { NotedOf (S.meaning source.now) self.old }
         requires ordered { Ordered (S.meaning source.now) (state_of self.old queues.old 0) }
         requires deep { 1 ≤ depth }
-        ensures ready { NotedOf (S.meaning source.now) self.new }
+        ensures noted { NotedOf (S.meaning source.now) self.new }
         ensures made { let m = S.meaning source.now in
             state_of self.new queues.new result ≡ many_steps m depth budget (state_of self.old queues.old 0) }
         ensures ordered { Ordered (S.meaning source.now) (state_of self.new queues.new 0) }
@@ -162,7 +159,7 @@ impl Books {
         requires { NotedOf (S.meaning source.now) self.old }
         ensures noted { NotedOf (S.meaning source.now) self.new }
         ensures ruled { let m = S.meaning source.now in
-            Ruled (run_answer depth budget) (run_tally depth budget) m (Some self.old) (Some self.new) result }
+            Obeys (run_answer depth budget) (run_tally depth budget) m (Some self.old) (Some self.new) result }
         ensures reported { IfOk result (λ p. Reports budget (tally_in self.old) (tally_in self.new) p) }
     {
         if !(1..=GREATEST_DEPTH).contains(&depth) {

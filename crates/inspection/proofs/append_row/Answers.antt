@@ -4,7 +4,7 @@ use Rattle.std.proofs.lemmas.List.{append_assoc, map-id}
 use Rattle.std.proofs.lemmas.Result.{on_ok_weaker}
 use Rattle.std.specs.List.{flat_map}
 use Rattle.sources.specs.Meaning.{row_of}
-use Rattle.sources.specs.declared.asking.RowEntries.{RowEntries}
+use Rattle.sources.specs.declared.row_entries.RowEntries.{RowEntries}
 use Rattle.inspection.specs.Listing.{entry_text}
 use Rattle.texts.specs.Telling.{newline}
 use Rattle.inspection.proofs.append_row.Goals as goal

@@ -7,6 +7,6 @@ use Rattle.pairing.proofs.put_refused_line.Goals as goal
 
 pub returns : goal.returns
 returns c = record {
-  puts = puts_then c.put.ensures.puts (puts_same (ap (λ k. decimal k ++ newline) c.number.ensures.value) (puts_then c.put_number.ensures.puts c.put-2.ensures.puts));
-  short = omega (arith, length-append (decimal (number_of c.args.refusal)) newline, subst (λ k. length (decimal k) ≤ 3) c.number.ensures.value c.put_number.ensures.short);
+  puts = puts_then c.put.ensures.puts (puts_same (ap (λ k. decimal k ++ newline) c.number.ensures.value) (puts_then c.put_decimal.ensures.puts c.put-2.ensures.puts));
+  short = omega (arith, length-append (decimal (number_of c.args.refusal)) newline, subst (λ k. length (decimal k) ≤ 3) c.number.ensures.value c.put_decimal.ensures.short);
 }

@@ -3,7 +3,7 @@ use Rattle.std.specs.Prelude.{ℕ, zero, suc, ◌+◌, ◌^◌, ◌<◌, ◌≤�
 use Rattle.std.proofs.Common.{arith}
 use Rattle.std.specs.List.{range_with_len, AllByRecursion}
 use Rattle.std.proofs.lemmas.List.{length-map}
-use Rattle.sources.specs.declared.place.Place.{Place}
+use Rattle.sources.specs.declared.places.Place.{Place}
 use Rattle.sources.specs.Meaning.{Sound, Rising}
 use Rattle.sources.specs.Travel.{worth_between, no_place, position_row, positions_of}
 use Rattle.sources.specs.Laws.Indexed.{all_made}

@@ -10,11 +10,11 @@ use Rattle.std.proofs.lemmas.Bool.{true≢false, leb-true, ltb-true, eqb-true, a
 use Rattle.std.proofs.lemmas.Bool.Decides.{Decides-by_or, Decides-eqb}
 use Rattle.sources.specs.Limits.{most_carriers, most_jobs, highest_ceiling, highest_worth}
 use Rattle.sources.specs.Meaning.{Sound, Rising}
-use Rattle.sources.specs.declared.form.Entry.{Entry}
-use Rattle.sources.specs.declared.form.Heading.{Heading}
+use Rattle.sources.specs.declared.records.Entry.{Entry}
+use Rattle.sources.specs.declared.records.Heading.{Heading}
 use Rattle.refusals.specs.declared.Refusal.{Refusal}
 use Rattle.refusals.specs.declared.Refusal.TheVariants.{JobOutOfOrder, WorthOutside}
-use Rattle.sources.specs.Sheets.{within_limits, blank, starts_good, last_of, has_start, no_entry, job_at, worth_at, in_order, refusal_at, first_refusal, listed, entry_refusal, pair_of, sheet_row, sheet_rows, sheet_of}
+use Rattle.sources.specs.Sheets.{within_limits, blank, starts_good, last_of, has_start, no_entry, job_at, worth_at, in_order, refusal_at, first_refusal, entries_in_rows, entry_refusal, pair_of, sheet_row, sheet_rows, sheet_of}
 use Rattle.sources.specs.Laws.Indexed.{all_made}
 use Rattle.sources.specs.Laws.Starts.{Started, started, mono}
 
@@ -45,16 +45,16 @@ two_tests false b e = absurd (true≢false e)
 pub has_start_lem : (starts : List ℕ) (k : ℕ) → Decides (has_start starts k) ((j : ℕ) × (j < length starts) × HoldsAt (λ s. s ≡ k) starts j)
 has_start_lem starts k = Decides-by_or (λ s. nat_eq s k) (λ s. s ≡ k) (λ ss. has_start ss k) (λ s. Decides-eqb s k) refl (λ _ _. refl) starts
 
-module _ (h : Heading) (starts : List ℕ) (entries : List Entry) (s : Started h starts (length entries)) (faultless : is_some (entry_refusal h starts (listed h starts entries)) ≡ false) where
-  length-listed : length (listed h starts entries) ≡ last_of h starts
+module _ (h : Heading) (starts : List ℕ) (entries : List Entry) (s : Started h starts (length entries)) (faultless : is_some (entry_refusal h starts (entries_in_rows h starts entries)) ≡ false) where
+  length-listed : length (entries_in_rows h starts entries) ≡ last_of h starts
   length-listed = let e = s.ends in simp length-take (omega arith)
 
-  good_at : (k : ℕ) → k < last_of h starts → (job_at (listed h starts entries) k < h.jobs) × (in_order starts (listed h starts entries) k ≡ true) × (1 ≤ worth_at (listed h starts entries) k) × (worth_at (listed h starts entries) k ≤ h.ceiling)
+  good_at : (k : ℕ) → k < last_of h starts → (job_at (entries_in_rows h starts entries) k < h.jobs) × (in_order starts (entries_in_rows h starts entries) k ≡ true) × (1 ≤ worth_at (entries_in_rows h starts entries) k) × (worth_at (entries_in_rows h starts entries) k ≤ h.ceiling)
   good_at k l =
-      let es = listed h starts entries in
-      let l' : k < length (listed h starts entries) = rw length-listed l in
+      let es = entries_in_rows h starts entries in
+      let l' : k < length (entries_in_rows h starts entries) = rw length-listed l in
       let z : 0 + k ≡ k = omega arith in
-      let n : is_some (refusal_at h starts (listed h starts entries) k) ≡ false = subst (λ j. is_some (refusal_at h starts (listed h starts entries) j) ≡ false) z (no_refusal (refusal_at h starts es) 0 (length es) faultless k l') in
+      let n : is_some (refusal_at h starts (entries_in_rows h starts entries) k) ≡ false = subst (λ j. is_some (refusal_at h starts (entries_in_rows h starts entries) j) ≡ false) z (no_refusal (refusal_at h starts es) 0 (length es) faultless k l') in
       let t = two_tests (nat_lt (job_at es k) h.jobs && in_order starts es k) (nat_le 1 (worth_at es k) && nat_le (worth_at es k) h.ceiling) n in
       let p = and_parts (nat_lt (job_at es k) h.jobs) (in_order starts es k) t.0 in
       let q = and_parts (nat_le 1 (worth_at es k)) (nat_le (worth_at es k) h.ceiling) t.1 in
@@ -73,7 +73,7 @@ module _ (h : Heading) (starts : List ℕ) (entries : List Entry) (s : Started h
     place : (k : ℕ) → k < length (sheet_row starts entries i) → slice_index starts i + k < slice_index starts (i + 1)
     place k l = omega (arith, length_row)
 
-    row_at : (k : ℕ) → k < length (sheet_row starts entries i) → slice_index_or (sheet_row starts entries i) k no_entry ≡ slice_index_or (listed h starts entries) (slice_index starts i + k) no_entry
+    row_at : (k : ℕ) → k < length (sheet_row starts entries i) → slice_index_or (sheet_row starts entries i) k no_entry ≡ slice_index_or (entries_in_rows h starts entries) (slice_index starts i + k) no_entry
     row_at k l =
         get_or-take (slice_index starts (i + 1) - slice_index starts i) (drop (slice_index starts i) entries) k no_entry (omega (arith, length_row))
         ∙ get_or-drop (slice_index starts i) entries k no_entry
@@ -92,7 +92,7 @@ module _ (h : Heading) (starts : List ℕ) (entries : List Entry) (s : Started h
 
     row_rises : (k : ℕ) → suc k < length (sheet_row starts entries i) → job_at (sheet_row starts entries i) k < job_at (sheet_row starts entries i) (suc k)
     row_rises k l =
-        let es = listed h starts entries in
+        let es = entries_in_rows h starts entries in
         let a = get_or starts i 0 in
         let here = ap (λ (e : Entry). e.job) (row_at k (omega arith)) in
         let there = ap (λ (e : Entry). e.job) (row_at (suc k) l) in
@@ -131,7 +131,7 @@ low_ceiling h e =
     omega (arith, eqb-true h.ceiling 0 q.1))
     (or_cases (within_limits h) (blank h) e)
 
-pub sheet_sound : (h : Heading) (starts : List ℕ) (entries : List Entry) → (within_limits h || blank h) ≡ true → starts_good h starts (length entries) ≡ true → is_some (entry_refusal h starts (listed h starts entries)) ≡ false → Sound (sheet_of h starts entries)
+pub sheet_sound : (h : Heading) (starts : List ℕ) (entries : List Entry) → (within_limits h || blank h) ≡ true → starts_good h starts (length entries) ≡ true → is_some (entry_refusal h starts (entries_in_rows h starts entries)) ≡ false → Sound (sheet_of h starts entries)
 sheet_sound h starts entries limited good faultless =
     let s = started h starts (length entries) good in
     record {

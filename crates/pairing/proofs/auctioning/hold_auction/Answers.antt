@@ -1,8 +1,8 @@
 use Rattle.std.proofs.Common.{◌≡◌, rules, length, get_or, is_ok, Err, sym, ap, ◌∙◌, subst, arith, Bor}
-use Rattle.sources.specs.declared.times.Times.{Times}
+use Rattle.sources.specs.declared.layers.times.Times.{Times}
 use Rattle.sources.specs.Layers.{times_of}
 use Rattle.auction.specs.Calls.{counts_answer, standing_answer}
-use Rattle.auction.specs.declared.standing.Standing.TheVariants.{Out}
+use Rattle.auction.specs.declared.bidding.Standing.TheVariants.{Out}
 use Rattle.auction.specs.Tally.{standing_at}
 use Rattle.sheetfile.proofs.Steps.{ok_same}
 use Rattle.hall.specs.InBooks.{tally_of}
@@ -16,7 +16,7 @@ returns-in_err-answers-clause-ends g c =
     let m = g.S.Source.meaning c.args.source.now in
     let sound = g.S.Source.sound c.args.source.now in
     let n = length c.args.standings.now in
-    let r = as_new (λ (s : Times (Bor g.row.S.Denot)). times_of s.factor (g.S.Source.meaning s.below.now)) _ _ _ _ c.perform_all.new.answers c.perform_all.new.self.books c.new-hall.ensures.kept c.new-hall.ensures.tallied (c.perform_all.ensures.performed (ap is_ok c.perform_all.ensures.fits)) in
+    let r = as_new (λ (s : Times (Bor g.row.S.Denot)). times_of s.factor (g.S.Source.meaning s.below.now)) _ _ _ _ c.perform_all.new.answers c.perform_all.new.self.books c.new-hall.ensures.source_kept c.new-hall.ensures.tallied (c.perform_all.ensures.performed (ap is_ok c.perform_all.ensures.fits)) in
     let back : c.from_residual.result ≡ Err c.in_err-answers.field-0.0 = search rules in
     subst (λ o. Ends (auctioned m) o c.args.standings.now) (sym back) (ends_refused m sound n c.requires.each _ c.perform_all.new.answers c.perform_all.new.self.books r c.in_err-answers.field-0.0 _ c.args.standings.now c.in_err-answers.was)
 
@@ -31,8 +31,8 @@ loop-carrier-preserved g c t some =
     let n = length c.args.standings.now in
     let i = c.loop-carrier.carrier in
     let b = c.perform_all.new.self.books in
-    let r = as_new (λ (s : Times (Bor g.row.S.Denot)). times_of s.factor (g.S.Source.meaning s.below.now)) _ _ _ _ c.perform_all.new.answers c.perform_all.new.self.books c.new-hall.ensures.kept c.new-hall.ensures.tallied (c.perform_all.ensures.performed (ap is_ok c.perform_all.ensures.fits)) in
-    let told = c.standing.ensures.answered ∙ ap (λ (s : Times (Bor g.row.S.Denot)). standing_answer i (times_of s.factor (g.S.Source.meaning s.below.now)) (tally_of b)) (c.perform_all.ensures.kept ∙ c.new-hall.ensures.kept)
+    let r = as_new (λ (s : Times (Bor g.row.S.Denot)). times_of s.factor (g.S.Source.meaning s.below.now)) _ _ _ _ c.perform_all.new.answers c.perform_all.new.self.books c.new-hall.ensures.source_kept c.new-hall.ensures.tallied (c.perform_all.ensures.performed (ap is_ok c.perform_all.ensures.fits)) in
+    let told = c.standing.ensures.answered ∙ ap (λ (s : Times (Bor g.row.S.Denot)). standing_answer i (times_of s.factor (g.S.Source.meaning s.below.now)) (tally_of b)) (c.perform_all.ensures.source_kept ∙ c.new-hall.ensures.source_kept)
     ∙ standing_told m sound n c.requires.each _ c.perform_all.new.answers b r t some i c.loop-carrier-test.true in
     elim c.match-standing.branch [
       | in-Ok w ↦
@@ -47,10 +47,10 @@ returns-clause-ends g c =
     let sound = g.S.Source.sound c.args.source.now in
     let n = length c.args.standings.now in
     let b = c.perform_all.new.self.books in
-    let r = as_new (λ (s : Times (Bor g.row.S.Denot)). times_of s.factor (g.S.Source.meaning s.below.now)) _ _ _ _ c.perform_all.new.answers c.perform_all.new.self.books c.new-hall.ensures.kept c.new-hall.ensures.tallied (c.perform_all.ensures.performed (ap is_ok c.perform_all.ensures.fits)) in
+    let r = as_new (λ (s : Times (Bor g.row.S.Denot)). times_of s.factor (g.S.Source.meaning s.below.now)) _ _ _ _ c.perform_all.new.answers c.perform_all.new.self.books c.new-hall.ensures.source_kept c.new-hall.ensures.tallied (c.perform_all.ensures.performed (ap is_ok c.perform_all.ensures.fits)) in
     let first = c.in_ok-answers.was in
     ends_well m sound n c.requires.each _ c.perform_all.new.answers b r _ c.in_ok-answers.field-0 c.counts.result c.loop-carrier.standings first
-    (c.counts.ensures.answered ∙ ap (λ (s : Times (Bor g.row.S.Denot)). counts_answer (times_of s.factor (g.S.Source.meaning s.below.now)) (tally_of b)) (c.perform_all.ensures.kept ∙ c.new-hall.ensures.kept))
+    (c.counts.ensures.answered ∙ ap (λ (s : Times (Bor g.row.S.Denot)). counts_answer (times_of s.factor (g.S.Source.meaning s.below.now)) (tally_of b)) (c.perform_all.ensures.source_kept ∙ c.new-hall.ensures.source_kept))
     c.loop-carrier.auto.standings (λ t some k inside. c.loop-carrier.invariant t some k (omega (arith, c.loop-carrier-test.false)))
 
 pub returns-clause-timed : goal.returns-clause-timed

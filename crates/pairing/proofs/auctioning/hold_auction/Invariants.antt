@@ -1,6 +1,6 @@
 use Rattle.std.proofs.Common.{◌≡◌, ℕ, ◌<◌, get_or, Some}
 use Rattle.auction.specs.Tally.{Tally, standing_at}
-use Rattle.auction.specs.declared.standing.Standing.TheVariants.{Out}
+use Rattle.auction.specs.declared.bidding.Standing.TheVariants.{Out}
 use Rattle.pairing.specs.Pairs.{auctioned}
 use Rattle.pairing.proofs.auctioning.hold_auction.Given as goal
 

@@ -16,7 +16,7 @@ loop-i-preserved g c =
           (c.perform.ensures.holds ∙ ap (λ k. list_after k (held c.loop-i.self) m) inv.1 ∙ ap (list_after n (held c.loop-i.self)) c.index-moves-i.is),
       c.perform.ensures.size ∙ inv.1,
       outcome_more n xs c.args.moves.now i m c.loop-i-test.true (held c.loop-i.self) c.perform.result c.loop-i.outcomes inv.0
-          (c.perform.ensures.told ∙ ap (λ k. outcome_of k (held c.loop-i.self) m) inv.1 ∙ ap (outcome_of n (held c.loop-i.self)) c.index-moves-i.is) l inv.2,
+          (c.perform.ensures.outcome ∙ ap (λ k. outcome_of k (held c.loop-i.self) m) inv.1 ∙ ap (outcome_of n (held c.loop-i.self)) c.index-moves-i.is) l inv.2,
       behind_more c.loop-i.outcomes c.args.outcomes.now i c.perform.result l inv.3,
     )
 

@@ -6,7 +6,7 @@ use Rattle.outputs.proofs.Puts.{puts_same, puts_then}
 use Rattle.sources.proofs.Reading.{row_length}
 use Rattle.sources.specs.Meaning.{row_of}
 use Rattle.sources.specs.Tables.{heading_of}
-use Rattle.sources.specs.declared.form.Heading.{Heading}
+use Rattle.sources.specs.declared.records.Heading.{Heading}
 use Rattle.sheetfile.specs.Layout.{entries_in, heading_bytes, row_bytes}
 use Rattle.sheetfile.specs.Writing.{nonzero}
 use Rattle.sheetfile.proofs.Bounds.{limits}

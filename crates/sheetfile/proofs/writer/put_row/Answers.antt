@@ -7,7 +7,7 @@ use Rattle.numbers.specs.Groups.{encoded}
 use Rattle.outputs.proofs.Puts.{puts_same, puts_then}
 use Rattle.sources.proofs.Reading.{row_length}
 use Rattle.sources.specs.Meaning.{row_of}
-use Rattle.sources.specs.declared.asking.RowEntries.{RowEntries}
+use Rattle.sources.specs.declared.row_entries.RowEntries.{RowEntries}
 use Rattle.sheetfile.specs.Writing.{nonzero, nonzero_bytes}
 use Rattle.sheetfile.proofs.Writing.{Small, kept_short, parts_all, row_light}
 use Rattle.sheetfile.proofs.writer.put_row.Goals as goal
@@ -15,7 +15,7 @@ use Rattle.sheetfile.proofs.writer.put_row.Goals as goal
 pub put_number-requires : goal.put_number-requires
 put_number-requires g c =
     let m = g.S.Source.meaning c.args.source.now in
-    omega (arith, row_length m (g.S.Source.sound c.args.source.now) c.args.carrier, kept_short (row_of m c.args.carrier), c.row_count-count.ensures, c.requires.jobs)
+    omega (arith, row_length m (g.S.Source.sound c.args.source.now) c.args.carrier, kept_short (row_of m c.args.carrier), c.nonzero_count-count.ensures, c.requires.jobs)
 
 pub put_entry-requires : goal.put_entry-requires
 put_entry-requires g c =
@@ -37,4 +37,4 @@ returns-clause-row g c =
     let rest = λ (s : RowEntries _ g.S.Source). drop s.places.start (row_of (g.S.Source.meaning s.source.now) s.carrier) in
     let end = YieldsList-end (YieldsList-from_first (λ x. x) rest row (ap rest c.into_iter-job-iterator.ensures.into_iter_gives ∙ c.entries-job-items.ensures)) c.loop-job.yielded c.loop-job.job-iterator c.loop-job.yielded_by _ c.next.new.self c.in-None.is c.next.ensures.steps in
     let all : c.loop-job.yielded ≡ row = sym (map-id c.loop-job.yielded) ∙ end.0 in
-    puts_same (ap (λ n. encoded n ++ flat_map nonzero_bytes c.loop-job.yielded) c.row_count-count.ensures ∙ ap (λ l. encoded (length (nonzero row)) ++ l) (ap (flat_map nonzero_bytes) all ∙ parts_all row)) (puts_then c.put_number.ensures c.loop-job.invariant)
+    puts_same (ap (λ n. encoded n ++ flat_map nonzero_bytes c.loop-job.yielded) c.nonzero_count-count.ensures ∙ ap (λ l. encoded (length (nonzero row)) ++ l) (ap (flat_map nonzero_bytes) all ∙ parts_all row)) (puts_then c.put_number.ensures c.loop-job.invariant)

@@ -5,9 +5,9 @@ use Rattle.refusals.specs.declared.Refusal.{Refusal}
 use Rattle.sources.specs.Meaning.{Meaning}
 use Rattle.sources.specs.Sheets.{sheet_of}
 use Rattle.sources.specs.OfSheet.{sheet_meaning}
-use Rattle.auction.specs.declared.call.Call.{Call}
-use Rattle.auction.specs.declared.call.Answer.{Answer}
-use Rattle.auction.specs.declared.call.Answer.TheVariants.{Accepted}
+use Rattle.auction.specs.declared.calls.Call.{Call}
+use Rattle.auction.specs.declared.calls.Answer.{Answer}
+use Rattle.auction.specs.declared.calls.Answer.TheVariants.{Accepted}
 use Rattle.auction.specs.Calls.{answers_from}
 use Rattle.hall.specs.declared.books.Books.{Books}
 use Rattle.hall.specs.Replayed.{Replayed}

@@ -1,7 +1,7 @@
 use Rattle.std.proofs.Common.{◌-◌, [], ◌∷◌, ◌++◌, length, get_or, take, sym, refl, ap, ◌∙◌, arith}
 use Rattle.std.proofs.lemmas.List.{append-nil, take_all}
 use Rattle.rings.specs.Held.{held}
-use Rattle.auction.specs.declared.standing.Standing.TheVariants.{Waiting, Bidding}
+use Rattle.auction.specs.declared.bidding.Standing.TheVariants.{Waiting, Bidding}
 use Rattle.auction.specs.Standings.{if_waiting, in_flight, looks_for, if_bidding}
 use Rattle.auction.specs.Runs.{gathered}
 use Rattle.hall.proofs.Tables.{consistent_in}

@@ -17,7 +17,7 @@ respond-requires g c =
 
 pub invariant_of-self : goal.invariant_of-self
 invariant_of-self g c = record {
-  kept = ∣ call_keeps (g.S.Source.meaning c.args.source.now) c.args.carrier c.args.act c.args.self.now c.requires c.respond.result c.respond.new.standing c.respond.new.counts
+  sound = ∣ call_keeps (g.S.Source.meaning c.args.source.now) c.args.carrier c.args.act c.args.self.now c.requires c.respond.result c.respond.new.standing c.respond.new.counts
       (omega arith) c.respond.ensures.answered c.respond.ensures.stood c.respond.ensures.numbered (g.S.Source.sound c.args.source.now) ∣₁;
 }
 

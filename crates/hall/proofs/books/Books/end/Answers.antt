@@ -35,14 +35,14 @@ free-requires c =
 
 pub invariant_of-self : goal.invariant_of-self
 invariant_of-self c = record {
-  kept = ∣ award_keeps c.args.self.now c.args.carrier c.args.bid c.requires.known c.requires.bidding c.conclude-verdict.result c.conclude-verdict.ensures.answered
+  sound = ∣ award_keeps c.args.self.now c.args.carrier c.args.bid c.requires.known c.requires.bidding c.conclude-verdict.result c.conclude-verdict.ensures.answered
       c.conclude-verdict.new.standing c.conclude-verdict.new.counts c.conclude-verdict.ensures.stood c.conclude-verdict.ensures.numbered c.in-Awarded.award c.in-Awarded.is
       c.free.new.standings c.free.ensures ∣₁;
 }
 
 pub invariant_of-self-in_default : goal.invariant_of-self-in_default
 invariant_of-self-in_default c = record {
-  kept = ∣ none_keeps c.args.self.now c.args.carrier c.args.bid c.requires.known c.requires.bidding c.conclude-verdict.result c.conclude-verdict.ensures.answered
+  sound = ∣ none_keeps c.args.self.now c.args.carrier c.args.bid c.requires.known c.requires.bidding c.conclude-verdict.result c.conclude-verdict.ensures.answered
       c.conclude-verdict.new.standing c.conclude-verdict.new.counts c.conclude-verdict.ensures.stood c.conclude-verdict.ensures.numbered c.in_default.not-Awarded ∣₁;
 }
 

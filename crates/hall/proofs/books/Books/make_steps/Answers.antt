@@ -12,8 +12,8 @@ loop-made-preserved g c =
     let q = c.loop-made.queues in
     let q' = c.step.new.queues in
     record {
-      ready = c.step.ensures.ready;
-      ordered = ordered_on m c.args.depth old new q q' c.step.ensures inv.ready inv.ordered;
+      noted = c.step.ensures.noted;
+      ordered = ordered_on m c.args.depth old new q q' c.step.ensures inv.noted inv.ordered;
       left = steps_on m c.args.depth old new q q' c.step.ensures c.args.budget c.loop-made.made _ c.loop-made-test.true inv.left;
     }
 
@@ -24,11 +24,11 @@ returns g c =
     let e : c.loop-made.made ≡ c.args.budget = omega arith in
     let made =
     ap (state_of c.loop-made.self c.loop-made.queues) (sym e) ∙ sym (no_steps m c.args.depth (c.args.budget - c.loop-made.made) _ (omega arith)) ∙ inv.left in
-    record { ready = inv.ready; made = made; ordered = inv.ordered; grown = run_grown m c.args.depth c.args.budget c.args.self.now c.loop-made.self c.args.queues.now c.loop-made.queues _ made }
+    record { noted = inv.noted; made = made; ordered = inv.ordered; grown = run_grown m c.args.depth c.args.budget c.args.self.now c.loop-made.self c.args.queues.now c.loop-made.queues _ made }
 
 pub returns-then-is_idle : goal.returns-then-is_idle
 returns-then-is_idle g c =
     let m = g.S.Source.meaning c.args.source.now in
     let inv = c.loop-made.invariant in
     let made = sym (idle_state m c.args.depth (c.args.budget - c.loop-made.made) c.loop-made.made c.loop-made.self c.loop-made.queues (sym c.if-is_idle.ensures)) ∙ inv.left in
-    record { ready = inv.ready; made = made; ordered = inv.ordered; grown = run_grown m c.args.depth c.args.budget c.args.self.now c.loop-made.self c.args.queues.now c.loop-made.queues _ made }
+    record { noted = inv.noted; made = made; ordered = inv.ordered; grown = run_grown m c.args.depth c.args.budget c.args.self.now c.loop-made.self c.args.queues.now c.loop-made.queues _ made }

@@ -9,7 +9,7 @@ use Rattle.hall.proofs.books.Books.make_steps.Given as goal
 abbrev pub invariant-loop-made : goal.invariant-loop-made
 invariant-loop-made g l =
     record {
-      ready : NotedOf (g.S.Source.meaning l.source) l.self;
+      noted : NotedOf (g.S.Source.meaning l.source) l.self;
       ordered : Ordered (g.S.Source.meaning l.source) (state_of l.self l.queues 0);
       left : many_steps (g.S.Source.meaning l.source) l.depth (l.budget - l.made) (state_of l.self l.queues l.made)
           ≡ many_steps (g.S.Source.meaning l.source) l.depth l.budget (state_of l.initial.self l.initial.queues 0);

@@ -19,7 +19,7 @@ returns g c =
     let deep : 1 ≤ c.args.depth = grind (arith, common_steps) in
     let made = c.make_steps-steps.ensures.made ∙ ap (many_steps m c.args.depth c.args.budget) c.begin.ensures in
     record {
-      noted = c.make_steps-steps.ensures.ready;
+      noted = c.make_steps-steps.ensures.noted;
       ruled = run_ruled m sound c.args.depth c.args.budget old new q c.make_steps-steps.result d c.requires made c.make_steps-steps.ensures.ordered c.ending.result c.ending.ensures c.since.result c.since.ensures;
       reported = run_reported m sound c.args.depth c.args.budget old new q c.make_steps-steps.result d c.requires made c.make_steps-steps.ensures.ordered c.ending.result c.ending.ensures c.since.result c.since.ensures deep;
     }

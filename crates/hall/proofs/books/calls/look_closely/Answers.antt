@@ -5,7 +5,7 @@ use Rattle.std.proofs.lemmas.List.{get_or-take}
 use Rattle.sources.specs.Meaning.{row_of}
 use Rattle.std.specs.Option.{unwrap_or}
 use Rattle.sources.proofs.Reading.{entry_or, row_known, row_within, row_rising, rising_apart, row_length}
-use Rattle.auction.specs.Bids.{fresh, weighed}
+use Rattle.auction.specs.Bids.{new_bid, weighed}
 use Rattle.hall.specs.Seeing.{bid_in}
 use Rattle.hall.proofs.Entries.{weighed_cut}
 use Rattle.hall.proofs.Seeing.{look_merged, seen_more}
@@ -70,7 +70,7 @@ loop-place-preserved g c =
     let more = step ∙ seen_more ps row from place (place - from) so_far e (omega arith) refl inside (c.unwrap_or-job.ensures ∙ ap (λ o. unwrap_or o (0, 0)) c.entry.ensures ∙ entry_or (g.S.Source.meaning c.args.source.now) c.args.carrier c.loop-place.place) c.loop-place.invariant.folded in
     record {
       folded = let r = c.and-seen.result in
-          subst (λ n. bid_in n r.net r.job r.worth r.runner_up ≡ fold (weighed ps) fresh (take n (drop from row))) next more;
+          subst (λ n. bid_in n r.net r.job r.worth r.runner_up ≡ fold (weighed ps) new_bid (take n (drop from row))) next more;
       rises = λ n l i.
           let apart = rising_apart 0 row (row_rising m sound c.args.carrier) place n (omega arith) i in
           c.and-seen.ensures.rises (get_or row n (0, 0)).0 (omega (arith, apart, ap (λ x. x.0) (c.unwrap_or-job.ensures ∙ ap (λ o. unwrap_or o (0, 0)) c.entry.ensures ∙ entry_or (g.S.Source.meaning c.args.source.now) c.args.carrier c.loop-place.place)));
@@ -81,7 +81,7 @@ returns g c =
     let m = g.S.Source.meaning c.args.source.now in
     let s = c.loop-place.seen in
     let count : c.loop-place.place - c.args.bid.now.looked ≡ c.args.count = omega arith in
-    let seen = subst (λ n. bid_in n s.net s.job s.worth s.runner_up ≡ fold (weighed (take m.jobs c.args.prices.now)) fresh (take n (drop c.args.bid.now.looked (row_of m c.args.carrier)))) count c.loop-place.invariant.folded in
+    let seen = subst (λ n. bid_in n s.net s.job s.worth s.runner_up ≡ fold (weighed (take m.jobs c.args.prices.now)) new_bid (take n (drop c.args.bid.now.looked (row_of m c.args.carrier)))) count c.loop-place.invariant.folded in
     c.merged.ensures ∙ look_merged c.args.count c.args.count (take m.jobs c.args.prices.now) (row_of m c.args.carrier) c.args.bid.now _ (omega arith) seen
 
 pub overflow_add-place-end : goal.overflow_add-place-end

@@ -3,8 +3,8 @@ use borrow.Author.Differences.{ints}
 use Rattle.std.proofs.lemmas.Bool.{ltb-true, ltb-false}
 use Rattle.sources.specs.Meaning.{row_of}
 use Rattle.sources.proofs.Reading.{entry_or}
-use Rattle.auction.specs.declared.standing.Best.{Best}
-use Rattle.auction.specs.declared.standing.Bid.{Bid}
+use Rattle.auction.specs.declared.bidding.Best.{Best}
+use Rattle.auction.specs.declared.bidding.Bid.{Bid}
 use Rattle.auction.specs.Bids.{natural}
 use Rattle.hall.specs.Glances.{price_held}
 use Rattle.hall.proofs.Glances.{glance_fits, looked_after, looked_count, still_best}

@@ -1,7 +1,7 @@
 use Rattle.std.proofs.Common.{get_or, take, sym, arith}
 use Rattle.std.proofs.lemmas.List.{length-append}
 use Rattle.outputs.proofs.Puts.{puts_same, puts_then}
-use Rattle.auction.specs.declared.standing.Standing.TheVariants.{Waiting}
+use Rattle.auction.specs.declared.bidding.Standing.TheVariants.{Waiting}
 use Rattle.pairing.specs.Listing.{carrier_line, carrier_lines}
 use Rattle.pairing.proofs.Lines.{lines_more}
 use Rattle.pairing.proofs.listing.Ended.put_lines.Goals as goal

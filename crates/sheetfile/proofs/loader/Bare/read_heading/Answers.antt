@@ -1,6 +1,6 @@
 use Rattle.std.proofs.Common.{ℕ, length, Bor, List, sym, ap, ◌∙◌, subst, arith}
 use Rattle.sources.specs.Tables.{heading_of}
-use Rattle.sources.specs.declared.form.Heading.{Heading}
+use Rattle.sources.specs.declared.records.Heading.{Heading}
 use Rattle.sheetfile.specs.Begun.{Begun}
 use Rattle.sheetfile.proofs.Begun.{begun_first, heading_there}
 use Rattle.sheetfile.proofs.Held.{holds_none}

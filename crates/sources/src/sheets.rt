@@ -1,0 +1,138 @@
+//! A source over two lent tables: where each row starts, and the entries of all rows. It is filled from a heading and these tables.
+ghost use Rattle.std.specs.Prelude.{◌≡◌, true, false, ◌||◌, length, is_some, is_ok, if◌then◌else◌, map, fold};
+ghost use Rattle.std.specs.List.{slice_get};
+ghost use Rattle.std.specs.Option.{option_map};
+ghost use Rattle.sources.specs.Laws.SheetSound.{sheet_sound};
+ghost use Rattle.sources.specs.Meaning.{empty_meaning};
+ghost use Rattle.sources.specs.Sheets.{within_limits, blank, starts_good, entry_refusal, fill_verdict, entries_in_rows, sheet_rows, sheet_of, pair_of};
+ghost use Rattle.sources.specs.Tables.{FillsExactly};
+
+use crate::filling_checks::fill_verdict;
+use crate::questions::Source;
+use crate::records::{Entry, Heading};
+use crate::visitors::Visitor;
+use refusals::Refusal;
+
+/// The row of carrier i begins at start i and ends before start i + 1. What filling checked holds of every sheet.
+/// Two lent tables and no vector of rows: no heap is used here.
+#[derive(Drop)]
+pub struct Sheet<'a> {
+    heading: Heading,
+    starts: &'a [usize],
+    entries: &'a [Entry],
+    ghost limited: { (within_limits heading || blank heading) ≡ true },
+    ghost started: { starts_good heading starts.now (length entries.now) ≡ true },
+    ghost faultless: { is_some (entry_refusal heading starts.now (entries_in_rows heading starts.now entries.now)) ≡ false },
+}
+
+// Shows a visitor entries, in their order. Eight of them, which a look of eight lanes goes over, are shown with no count kept from
+// one to the next: a look takes 12 instructions for each in place of 15.
+#[inline(always)]
+fn show<V: Visitor>(entries: &[Entry], visitor: V) -> V
+    ensures { result ≡ fold V.shown visitor (map pair_of entries.now) }
+{
+    if let [a, b, c, d, e, f, g, h] = entries {
+        let visitor = visitor.see((a.job, a.worth)).see((b.job, b.worth));
+        let visitor = visitor.see((c.job, c.worth)).see((d.job, d.worth));
+        let visitor = visitor.see((e.job, e.worth)).see((f.job, f.worth));
+        return visitor.see((g.job, g.worth)).see((h.job, h.worth));
+    }
+    let mut visitor = visitor;
+    for entry in entries {
+        visitor = visitor.see((entry.job, entry.worth));
+    }
+    visitor
+}
+
+impl<'a> Sheet<'a> {
+    ghost use Rattle.sources.specs.OfSheet.{sheet_meaning};
+
+    /// A sheet with no carriers, no jobs and ceiling 0.
+    pub fn new() -> Sheet<'a>
+        ensures { sheet_meaning result ≡ empty_meaning }
+    {
+        let heading = Heading {
+            carriers: 0,
+            jobs: 0,
+            ceiling: 0,
+        };
+        Sheet {
+            heading,
+            starts: &[0],
+            entries: &[],
+        }
+    }
+
+    /// Takes the heading and the tables if they make a sheet; else the sheet stays as it was.
+    pub fn fill(
+        &mut self,
+        heading: Heading,
+        starts: &'a [usize],
+        entries: &'a [Entry],
+    ) -> Result<(), Refusal>
+        ensures verdict { result ≡ fill_verdict heading starts.now entries.now }
+        ensures means { let filled = sheet_of heading starts.now entries.now in
+            sheet_meaning self.new ≡ (if is_ok result then filled else sheet_meaning self.old) }
+        ensures refused { is_ok result ≡ false → self.new ≡ self.old }
+        ensures exact { FillsExactly heading starts.now entries.now result (sheet_meaning self.new) }
+    {
+        fill_verdict(heading, starts, entries)?;
+        *self = Sheet {
+            heading,
+            starts,
+            entries,
+        };
+        Ok(())
+    }
+
+    // The carrier's row; `None` past the last carrier.
+    fn row(&self, carrier: usize) -> Option<&[Entry]>
+        ensures { let s = self.now in
+            option_map (λ x. x.now) result ≡ slice_get (sheet_rows s.heading s.starts.now s.entries.now) carrier }
+    {
+        if carrier < self.heading.carriers {
+            Some(&self.entries[self.starts[carrier]..self.starts[carrier + 1]])
+        } else {
+            None
+        }
+    }
+}
+
+impl Source for Sheet<'_> {
+    ghost meaning = { λ s. sheet_of s.heading s.starts.now s.entries.now };
+
+    ghost sound = { λ s. sheet_sound s.heading s.starts.now s.entries.now s.limited s.started s.faultless };
+
+    fn carriers(&self) -> usize {
+        self.heading.carriers
+    }
+
+    fn jobs(&self) -> usize {
+        self.heading.jobs
+    }
+
+    fn ceiling(&self) -> u64 {
+        self.heading.ceiling
+    }
+
+    fn row_len(&self, carrier: usize) -> Option<usize> {
+        let row = self.row(carrier)?;
+        Some(row.len())
+    }
+
+    fn entry(&self, carrier: usize, index: usize) -> Option<(usize, u64)> {
+        let entry = self.row(carrier)?.get(index)?;
+        Some((entry.job, entry.worth))
+    }
+
+    #[inline(always)]
+    fn visit<V: Visitor>(&self, carrier: usize, from: usize, count: usize, visitor: V) -> V {
+        let Some(row) = self.row(carrier) else {
+            return visitor;
+        };
+        if from >= row.len() {
+            return visitor;
+        }
+        show(&row[from..from + count.min(row.len() - from)], visitor)
+    }
+}
