@@ -49,7 +49,7 @@ pub record Fits (prices : List ℕ) (old : Option Best) (first : ℕ) (s : Glanc
   pub net : s.net ≡ pos (top_net o)
   pub runner : s.runner_up ≡ pos r
   pub found : s.job < 256 → Found prices s o low
-  pub kept : 256 ≤ s.job → top_net o ≡ top_net old
+  pub stays : 256 ≤ s.job → top_net o ≡ top_net old
   pub lasts : 256 ≤ s.job → 0 < top_net o → (r < top_net o) ⊎ (job_of old < first) → o ≡ old
   pub begun : first ≤ low
   pub held : s.prices.now ≡ prices
@@ -97,7 +97,7 @@ module _ (prices : List ℕ) (old : Option Best) (first p j w low : ℕ) (s : Gl
       net = whole n l;
       runner = (λ i. int_max (f.runner i) (f.net i)) ∙ max_whole r (pos (top_net o));
       found = λ h. record { some = l; best = same_best l; before = omega arith; light = heavy l };
-      kept = λ h. absurd (omega (arith, h, known));
+      stays = λ h. absurd (omega (arith, h, known));
       lasts = λ h. absurd (omega (arith, h, known));
       begun = next;
       held = f.held;
@@ -116,7 +116,7 @@ module _ (prices : List ℕ) (old : Option Best) (first p j w low : ℕ) (s : Gl
           net = f.net;
           runner = runner_on ∙ ap pos m;
           found = found_on;
-          kept = f.sound;
+          stays = f.stays;
           lasts = f.lasts;
           begun = next;
           held = f.held;
@@ -135,7 +135,7 @@ module _ (prices : List ℕ) (old : Option Best) (first p j w low : ℕ) (s : Gl
         net = f.net ∙ ap pos (sym a);
         runner = runner_on None b.runner_up f ∙ ap pos m;
         found = λ h. absurd (let q = (f.found h).some in omega (arith, q));
-        kept = λ h. a ∙ f.sound h;
+        stays = λ h. a ∙ f.stays h;
         lasts = λ h z. absurd (omega (arith, a, z));
         begun = next None b.runner_up f;
         held = f.held;
@@ -163,7 +163,7 @@ module _ (prices : List ℕ) (old : Option Best) (first p j w low : ℕ) (s : Gl
           net = f.net ∙ ap pos (sym a);
           runner = runner_on (Some x) b.runner_up f ∙ ap (λ k. pos (max b.runner_up k)) a;
           found = λ h. absurd (let q = f.found h in none_better t e (ap net_of q.best) (subst (λ k. k < low) (sym (ap job_of q.best)) q.before));
-          kept = λ h. a ∙ f.sound h;
+          stays = λ h. a ∙ f.stays h;
           lasts = λ h z d. absurd (
               let above : 0 < natural x.net = omega (arith, a, z) in
               ⊎_elim (λ u. omega (arith, a, u))
@@ -183,7 +183,7 @@ module _ (prices : List ℕ) (old : Option Best) (first p j w low : ℕ) (s : Gl
       net = f.net;
       runner = runner_on (Some x) b.runner_up f;
       found = found_on (Some x) b.runner_up f;
-      kept = f.sound;
+      stays = f.stays;
       lasts = λ h z d. f.lasts h z (⊎_elim (λ u. inl (omega (arith, u))) (λ u. inr u) d);
       begun = next (Some x) b.runner_up f;
       held = f.held;
@@ -264,7 +264,7 @@ tie_won (Some x) next e q t =
 pub still_best : (prices : List ℕ) (old o : Option Best) (first r low : ℕ) (s : Glance) (next : Option (ℕ × ℕ)) (e : ℕ × ℕ) → Fits prices old first s o r low → 256 ≤ s.job →
     unwrap_or next (0, 0) ≡ e → e.0 ≡ first → lasts s next old ≡ true → o ≡ old
 still_best prices old o first r low s next e f none q at t =
-    let top = f.sound none in
+    let top = f.stays none in
     ⊎_elim
     (λ u. let l = lt-true s.runner_up s.net u in let below : r < top_net o = omega (arith, l, ap up f.runner, ap down f.runner, ap up f.net, ap down f.net) in
     f.lasts none (omega (arith, below)) (inl below))
@@ -293,7 +293,7 @@ module _ (m : Meaning) (sound : Sound m) (few : m.jobs ≤ 256) (prices : List �
     net = net;
     runner = runner_up;
     found = λ h. absurd (omega (arith, job, h));
-    kept = λ h. refl;
+    stays = λ h. refl;
     lasts = λ h z d. refl;
     begun = omega arith;
     held = held;

@@ -11,7 +11,7 @@ mod queues;
 mod runs;
 
 /// Of `prices` and `holders` the first `noted.jobs` are used, and of `standings` the first `noted.carriers`. Arrays: no heap is used
-/// here, since C calls it. The prices stand close together, since a look reads one for each entry.
+/// here, since C calls it. Prices have a table of their own, so that a look reads one in one instruction.
 #[derive(Drop)]
 pub struct Books {
     // What start noted of the source.

@@ -1,14 +1,13 @@
 //! The calls, on books and the source that they were started for. Source and books are lent side by side: a struct of the two
 //! borrows would be a second hall.
-ghost use Rattle.std.specs.Prelude.{◌≡◌, ℕ, ◌+◌, ◌^◌, ◌<◌, ◌≤◌, false, length, take, is_ok, Some, None, IfOk, OnOk, slice_index};
-ghost use Rattle.std.specs.Result.{result_map_both};
+ghost use Rattle.std.specs.Prelude.{◌≡◌, ℕ, ◌+◌, ◌^◌, ◌<◌, ◌≤◌, false, length, take, is_ok, Some, None, OnOk, slice_index};
 ghost use Rattle.sources.specs.Limits.{most_carriers, most_jobs, highest_ceiling};
-ghost use Rattle.sources.specs.Meaning.{Meaning, row_of, entry_at};
+ghost use Rattle.sources.specs.Meaning.{row_of, entry_at};
 ghost use Rattle.auction.specs.Bids.{looked_on, judged, best_worth};
 ghost use Rattle.auction.specs.Consistent.{Limits};
 ghost use Rattle.auction.specs.Limits.{highest_step};
 ghost use Rattle.auction.specs.Looks.{Looks};
-ghost use Rattle.auction.specs.Rules.{tally_at_start, start_answer, start_tally, bid_at, called, summon_answer, summon_tally, look_answer, look_tally, freed, verdict_in, ended, settle_answer, settle_tally};
+ghost use Rattle.auction.specs.Rules.{tally_at_start, start_answer, bid_at, called, summon_answer, summon_tally, look_answer, look_tally, freed, verdict_in, ended, settle_answer, settle_tally};
 ghost use Rattle.auction.specs.Standings.{BidSound, StandingSound};
 ghost use Rattle.auction.specs.Tally.{standing_at};
 ghost use Rattle.hall.specs.Glances.{lasts, wins_ties, follows};
@@ -37,7 +36,9 @@ pub(crate) fn check_start<S: Source>(source: &S, step: u64, lanes: usize) -> Res
     }
 }
 
-// Looks at the next entries of the carrier's row, as many as there are lanes, or as many as are left.
+// Looks at the next entries of the carrier's row, as many as there are lanes, or as many as are left. Inlined, since what calls it has
+// found the row's length.
+#[inline(always)]
 fn look_on<S: Source>(
     source: &S,
     prices: &[u64; MOST_JOBS],
