@@ -31,7 +31,7 @@ act_by false line [] = None
 act_by false line (f ∷ flight) = Some (first_act f.looks_left, f.carrier)
 
 module _ (m : Meaning) where
-  -- An act whose bid is taken is accepted as a call.
+  -- An act that `bid_at` accepts is accepted as a call.
   act_accepted : (act : Act) (i : ℕ) (t : Tally) (b : Bid) → bid_at m i act t ≡ Ok b → is_ok (answer_to m (Some t) (act_call act i)) ≡ true
   unfolding answer_to
   act_accepted Summon i t b e = ap (λ r. is_ok (as_answer accepted (success_of r))) e

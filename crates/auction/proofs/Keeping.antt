@@ -152,7 +152,7 @@ pub settle_consistent : (m : Meaning) (t : Tally) → Consistent m.carriers m.jo
 settle_consistent m t con i =
     settle_takes m t i (Consistent m.carriers m.jobs m.ceiling) con (λ l b e _. ended_consistent m.carriers m.jobs m.ceiling t con i l b e)
 
--- The bid that settles is the one that stands.
+-- The bid that settles is the one that the carrier's standing keeps.
 pub settle_stands : (lanes : ℕ) (ps : List ℕ) (row : List (ℕ × ℕ)) (s : Standing) (b : Bid) → bid_after lanes ps row s Settle ≡ Ok b → s ≡ Bidding b
 settle_stands lanes ps row (Bidding a) b e =
     cond_both {A = Result Bid Refusal} (looked_all row a) _ _ (λ r. r ≡ Ok b → Bidding a ≡ Bidding b)

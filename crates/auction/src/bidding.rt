@@ -12,7 +12,8 @@ pub struct Best {
     pub worth: u64,
 }
 
-/// How many entries of its row a bid has looked at, the best of them, and the runner-up: the highest net above 0 among the others, and 0 where none is above 0.
+/// How many entries of its row a bid has looked at, the best of them, and the runner-up: the highest net above 0 among the others, and
+/// 0 where none is above 0.
 #[derive(Clone, Copy, PartialEq, Eq, Debug)]
 pub struct Bid {
     pub looked: usize,

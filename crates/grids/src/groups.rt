@@ -1,5 +1,4 @@
-//! The numbers of a sheet file. Written here and not by the crate that the loader and the writer call, no plainer: trials must not call
-//! what they try.
+//! The numbers of a sheet file, by code of their own, so that what is tried is not called by its trial.
 ghost use Rattle.std.specs.Prelude.{◌≡◌, ◌++◌, OnOk};
 ghost use Rattle.numbers.specs.Groups.{encoded};
 

@@ -14,7 +14,7 @@ use draws::Draw;
 const PAIRINGS: u32 = 625;
 
 /// What each job is worth to each carrier, at most four of each; 0 where a carrier may not take a job. The three numbers are
-/// no `Heading`, since grids rest on no crate that the trials try; the worths are an array, since a grid is copied whole.
+/// no `Heading`: grids call no crate that the trials try. The worths are an array, since a grid is copied whole.
 #[derive(Clone, Copy, PartialEq, Eq, Debug)]
 pub struct Grid {
     pub carriers: usize,

@@ -90,7 +90,7 @@ with_standing_in b i s n =
     same_tally (tally_held b.noted b.step b.lanes b.prices b.holders (set b.standings i s) n) (with_standing i s n (tally_in b)) refl refl refl refl
     (take_set_any b.noted.carriers b.standings i s) refl
 
--- ---- books just opened
+-- ---- new books
 
 pub all_zero : (n : Counts) → n.summonses ≡ 0 → n.awards ≡ 0 → n.stales ≡ 0 → n.outs ≡ 0 → n ≡ no_counts
 all_zero n a b c d = λ i. record { summonses = a i; awards = b i; stales = c i; outs = d i }

@@ -10,8 +10,8 @@ mod questions;
 mod queues;
 mod runs;
 
-/// Of `prices` and `holders` the first `noted.jobs` are used, and of `standings` the first `noted.carriers`. Arrays: no heap is used
-/// here, since C calls it. Prices have a table of their own, so that a look reads one in one instruction.
+/// The tally of a hall, in tables: of `prices` and `holders` the first `noted.jobs` places are used, of `standings` the first
+/// `noted.carriers`. Prices have a table of their own, so that a look reads one in one instruction.
 #[derive(Drop)]
 pub struct Books {
     // What start noted of the source.

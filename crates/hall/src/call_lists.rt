@@ -9,7 +9,8 @@ use refusals::Refusal;
 use sources::Source;
 
 impl<S: Source> Hall<S> {
-    /// Performs the calls in their order, and writes each answer. Answers too few for the calls are refused, and then nothing is written or performed.
+    /// Performs the calls in their order, and writes each answer. Answers too few for the calls are refused, and then nothing is
+    /// written or performed.
     pub fn perform_all(
         &mut self,
         calls: &[Call],
@@ -32,7 +33,8 @@ impl<S: Source> Hall<S> {
     }
 }
 
-/// Performs the calls in their order on a new hall, and writes each answer. Answers too few for the calls are refused, and then nothing is written or performed.
+/// Performs the calls in their order on a new hall, and writes each answer. Answers too few for the calls are refused, and then nothing
+/// is written or performed.
 pub fn replay<S: Source>(
     source: S,
     calls: &[Call],

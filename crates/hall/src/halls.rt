@@ -16,9 +16,8 @@ use auction::{Answer, Call, Counts, Report, Standing, Verdict};
 use refusals::Refusal;
 use sources::{Source, heading_of};
 
-/// A hall owns its source, any source, and its books; it has none before the first start. Every call acts on that hall: it answers as the rule
-/// says, leaves the tally that the rule says, and leaves the source as it was; a refused call leaves the books as they were. Each call
-/// promises that of its own, the source (`source_kept`) too: no type can say what a call leaves.
+/// An auction over a source that it owns, any source. Before its first start it has no books. Every call answers as its rule says,
+/// leaves the tally that the rule says, and leaves the source as it was; a refused call leaves the books as they were.
 #[derive(Drop)]
 pub struct Hall<S: Source> {
     source: S,
@@ -65,7 +64,8 @@ impl<S: Source> Hall<S> {
             .summon(&self.source, carrier)
     }
 
-    /// Looks further along the row of a bidding carrier, at the prices now: by as many entries as there are lanes, or to the end of the row.
+    /// Looks further along the row of a bidding carrier, at the prices now: by as many entries as there are lanes, or to the end of
+    /// the row.
     /// Refused, in this order: never started, carrier number too large, no open bid, row fully looked at.
     pub fn look(&mut self, carrier: usize) -> Result<(), Refusal>
         ensures ruled { Obeys (look_answer carrier) (look_tally carrier) (S.meaning self.old.source) self.old.books self.new.books result }
@@ -91,7 +91,8 @@ impl<S: Source> Hall<S> {
             .settle(&self.source, carrier)
     }
 
-    /// Makes summonses, looks and settles by its rule, until nobody waits or bids or the budget is used up, and answers how many of each it made.
+    /// Makes summonses, looks and settles, in the order that docs/HALL.md tells ("Run"), until nobody waits or bids or the budget is
+    /// used up, and answers how many steps these were and what they came to.
     /// Refused, in this order: never started, depth outside 1 to 128.
     pub fn run(&mut self, depth: usize, budget: u64) -> Result<Report, Refusal>
         ensures ruled { let m = S.meaning self.old.source in

@@ -1,5 +1,6 @@
-//! What the entries of a look come to: first among themselves, in plain numbers, and then beside the bid so far.
+//! What entries that are looked at one by one come to: first among themselves, and then beside the bid so far (`look_closely`).
 ghost use Rattle.std.specs.Prelude.{◌≡◌, ◌+◌, ◌^◌, ◌<◌, ◌≤◌, ◌⊎◌, negsuc, pos, ◌-ℤ◌, if◌then◌else◌, ◌==◌, ℕ, cond};
+ghost use Rattle.sources.specs.Limits.{highest_worth};
 ghost use Rattle.auction.specs.Bids.{natural, beats, weighed_at, best_worth};
 ghost use Rattle.hall.specs.Seeing.{least, merged, bid_in};
 
@@ -20,7 +21,7 @@ fn is_better(new: Best, old: Best) -> bool
 }
 
 // The best of some entries by rising job, and the highest net among the others. Worth 0 says that there was none, and no net is
-// then below this one. Numbers side by side, and no Option: they stay in registers while a look goes along a row.
+// then below this one.
 #[derive(Clone, Copy)]
 pub(crate) struct Ranked {
     net: i64,
@@ -39,8 +40,8 @@ pub(crate) fn either<T: Copy>(so: bool, first: T, second: T) -> T
 
 // Worth minus price; an entry of worth 0 counts as none.
 fn net_at(worth: u64, price: u64) -> i64
-    requires low_worth { worth ≤ 2 ^ 60 }
-    requires low_price { price ≤ 2 ^ 60 }
+    requires low_worth { worth ≤ highest_worth }
+    requires low_price { price ≤ highest_worth }
     ensures { result ≡ cond (worth == 0) least (pos worth -ℤ pos price) }
 {
     if worth == 0 {
@@ -68,8 +69,8 @@ impl Ranked {
 
     // One more entry, of a job above those before, at its job's price. Of equal nets the one before stays.
     pub(crate) fn and(self, job: usize, worth: u64, price: u64) -> Self
-        requires low_worth { worth ≤ 2 ^ 60 }
-        requires low_price { price ≤ 2 ^ 60 }
+        requires low_worth { worth ≤ highest_worth }
+        requires low_price { price ≤ highest_worth }
         requires rises { (self.worth ≡ 0) ⊎ (self.job < job) }
         ensures seen { (n : ℕ) → let before = bid_in n self.net self.job self.worth self.runner_up in
             bid_in (n + 1) result.net result.job result.worth result.runner_up ≡ weighed_at price before (job, worth) }

@@ -1,7 +1,8 @@
+//! The numbers of a sheet file, in groups of seven bits, the lowest first: read one, write one, how many bytes one has.
 #![tactic(auto)]
 
 ghost use Rattle.std.specs.Prelude.{◌≡◌, ℕ, ◌+◌, ◌^◌, ◌<◌, ◌≤◌, ◌&&◌, List, length, take, drop, is_ok, IfOk, if◌then◌else◌, Ok, Some, ◌==◌, nat_lt};
-ghost use Rattle.numbers.specs.Groups.{encoded};
+ghost use Rattle.numbers.specs.Groups.{encoded, most_groups};
 ghost use Rattle.numbers.specs.Laws.{ReadsExactly, Sized};
 ghost use Rattle.numbers.specs.Reading.{read_at};
 ghost use Rattle.numbers.specs.Writing.{over, write_at};
@@ -11,8 +12,7 @@ use refusals::{Fault, Refusal};
 /// The most groups that a number of a sheet file may have.
 pub const MOST_GROUPS: usize = 6;
 
-/// Reads the number that begins at a place: its value, and the place behind it. The place stands beside the bytes, here
-/// and in writing, since refusals tell it and callers go on from it.
+/// Reads the number that begins at a place: its value, and the place behind it.
 pub fn read_number(bytes: &[u8], at: usize) -> Result<(u64, usize), Fault>
     ensures value { result ≡ read_at bytes.now at }
     ensures exact { ReadsExactly bytes.now at result }
@@ -75,7 +75,7 @@ fn read_any(bytes: &[u8], at: usize) -> Result<(u64, usize), Fault>
 
 // The bytes from a place on, and no more of them than a number may have.
 fn groups_from(bytes: &[u8], at: usize) -> &[u8]
-    ensures { result.now ≡ take 6 (drop at bytes.now) }
+    ensures { result.now ≡ take most_groups (drop at bytes.now) }
 {
     let rest = bytes.get(at..).unwrap_or(&[]);
     rest.get(..MOST_GROUPS).unwrap_or(rest)
@@ -93,7 +93,6 @@ pub fn number_len(n: u64) -> usize
     ensures value { result ≡ length (encoded n) }
     ensures sized { Sized n }
 {
-    // By `as`: `try_from` would add a case that cannot come.
     n.max(1).ilog(128) as usize + 1
 }
 

@@ -5,8 +5,7 @@
 ghost use Rattle.std.specs.Prelude.{◌≡◌, ◌+◌, ◌<◌, length, min};
 ghost use Rattle.outputs.specs.Puts.{Puts};
 
-/// Lent bytes, and how many bytes were put so far, which is the place of the next piece. No Vec: no heap is used here,
-/// since C calls it.
+/// Lent bytes, and how many bytes were put so far, which is the place of the next piece. It takes no memory.
 #[derive(Drop)]
 pub struct Output<'a> {
     bytes: &'a mut [u8],

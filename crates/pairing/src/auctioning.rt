@@ -18,7 +18,8 @@ const PAIR_DEPTH: usize = 8;
 
 const PAIR_BUDGET: u64 = 1_000_000;
 
-// Puts times (carriers + 1) on the sheet, starts, runs, and notes every carrier's standing. It gives the counts, or why the start was refused.
+// Puts times (carriers + 1) on the sheet, starts, runs, and notes every carrier's standing. It gives the counts, or why the start was
+// refused.
 pub(crate) fn hold_auction<S: Source>(
     source: &S,
     standings: &mut [Standing],

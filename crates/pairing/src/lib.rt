@@ -12,7 +12,7 @@ ghost use Rattle.sources.specs.Limits.{most_carriers};
 
 use crate::auctioning::hold_auction;
 use crate::listing::Ended;
-use crate::loading::load_within;
+use crate::loading::load_own;
 use crate::putting::put_decimal;
 use auction::Standing;
 use outputs::Output;
@@ -48,7 +48,6 @@ pub fn list_pairs(sheet: &[u8], out: &mut [u8]) -> Result<usize, Refusal>
 }
 
 // The same with a table of so many entries. A file has at most one for each two of its bytes.
-// Tables of a fixed size, here and below: no heap is used, since C calls it.
 fn list_in<const ENTRIES: usize>(sheet: &[u8], out: &mut [u8]) -> Result<usize, Refusal>
     requires room { ENTRIES ≡ most_entries ⊎ (length sheet.now ≤ 2 * ENTRIES) × (ENTRIES ≤ most_entries) }
     ensures answer { result ≡ sized (listed_within sheet.now (length out.old)) }
@@ -56,7 +55,7 @@ fn list_in<const ENTRIES: usize>(sheet: &[u8], out: &mut [u8]) -> Result<usize, 
     ensures short { AtMost most_text (listed sheet.now) }
 {
     let mut tables = OwnTables::<ENTRIES>::new();
-    load_within(sheet, &mut tables).map_err(|fault| fault.refusal)?;
+    load_own(sheet, &mut tables).map_err(|fault| fault.refusal)?;
     list_source(&tables.sheet(), out)
 }
 
@@ -83,8 +82,7 @@ fn list_source<S: Source>(source: &S, out: &mut [u8]) -> Result<usize, Refusal>
 }
 
 /// What `pair` prints of a sheet file: how many bytes, and the refusal, if it is refused.
-/// No Result: a refusal is printed too, so there is a text in each case. The text goes to a lent buffer and is not kept here, since C's
-/// call lists into one of its own.
+/// A refusal has a text too. The text goes to a lent buffer and is not kept here.
 #[derive(Drop)]
 pub struct PrintedPairs {
     pub len: usize,

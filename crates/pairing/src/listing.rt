@@ -73,7 +73,7 @@ impl<S: Source> Ended<'_, S> {
     }
 
     // What a served carrier has is worth on the sheet; 0 where none is served.
-    fn worth_served(&self, standing: Standing) -> u64
+    fn worth_told(&self, standing: Standing) -> u64
         ensures { result ≡ worth_told (length self.now.standings.now + 1) standing }
     {
         match standing {
@@ -88,7 +88,7 @@ impl<S: Source> Ended<'_, S> {
     {
         self.standings
             .iter()
-            .map(|standing| u128::from(self.worth_served(*standing)))
+            .map(|standing| u128::from(self.worth_told(*standing)))
             .sum()
     }
 

@@ -11,7 +11,7 @@ use sheetfile::{MOST_BYTES, OwnTables};
 
 // Loads a file within the limits of the programs, into tables that may be smaller where the file is short: each entry takes two
 // bytes at least, so tables with a place for each two bytes have room enough. Where it is refused, they hold the sheet that they held.
-pub(crate) fn load_within<const ENTRIES: usize>(
+pub(crate) fn load_own<const ENTRIES: usize>(
     bytes: &[u8],
     tables: &mut OwnTables<ENTRIES>,
 ) -> Result<(), Fault>

@@ -14,7 +14,6 @@ pub extern "C" fn torwhisk_pair(sheet: &[u8], out: &mut [u8]) -> i64
     ensures paired { (text : List ℕ) → listed sheet.now ≡ Ok text → ListsFile sheet.now text }
     ensures short { AtMost most_text (listed sheet.now) }
 {
-    // By hand: C knows no Result, so the length and the refusal's number share one integer.
     match list_pairs(sheet, out) {
         Ok(len) => len as i64,
         Err(refusal) => -i64::from(refusal.number()),

@@ -1,4 +1,4 @@
-//! The sheet file of a grid. Written here and not by the writer's crate, no plainer: trials must not call what they try.
+//! The sheet file of a grid, by code of its own, so that what is tried is not called by its trial.
 use grids::Grid;
 use grids::groups::push_number;
 use std::alloc::{AllocError, Global};

@@ -1,3 +1,4 @@
+//! Why a call is refused: 22 cases with their numbers and reasons; a fault is a refusal with the byte place where it has one.
 #![tactic(auto)]
 
 ghost use Rattle.std.specs.Prelude.{◌≡◌, Some};
@@ -134,7 +135,7 @@ impl fmt::Display for UnknownNumber {
 
 impl Error for UnknownNumber {}
 
-// The refusal that has a number. Spelled out: the library has no derive that leads from a number to its case.
+// The refusal that has a number.
 impl TryFrom<u8> for Refusal {
     type Error = UnknownNumber;
 

@@ -42,7 +42,6 @@ fn perform_under<S: Source + Drop>(
 }
 
 // The same, with the source under two layers, if there are any.
-// By hand, once for each place: one source that held any layer would ask at every question which it is, and is no shorter.
 pub(crate) fn perform_layered<S: Source + Drop>(
     heap: Global,
     source: S,

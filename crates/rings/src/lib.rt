@@ -8,9 +8,8 @@ use refusals::Refusal;
 
 pub mod moves;
 
-/// The oldest element is at `head`, and the others follow it, from the end of the places to their start.
-/// Lent places, and no VecDeque: no heap is used here, since C calls it. No Model: callers speak of the list held and of
-/// the room, each by itself, and a record of the two would only stand before each.
+/// A queue over lent places: what is pushed first is popped first. It takes no memory.
+// The oldest element is at `head`, and the others follow it, from the end of the places to their start.
 #[derive(Drop)]
 pub struct Ring<'a, T: Copy> {
     places: &'a mut [T],

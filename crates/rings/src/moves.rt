@@ -36,7 +36,8 @@ impl<'a, T: Copy> Ring<'a, T> {
         }
     }
 
-    /// Makes the pushes and pops in their order, and writes what came of each. Outcomes too few for the moves are refused, and then nothing is made or written.
+    /// Makes the pushes and pops in their order, and writes what came of each. Outcomes too few for the moves are refused, and then
+    /// nothing is made or written.
     pub fn perform_all(
         &mut self,
         moves: &[Move<T>],

@@ -62,7 +62,6 @@ pub(crate) fn load_surveyed(
 
 /// Loads a whole file into the tables, and gives its heading: the sheet over the tables then means the file. Where it is
 /// refused, the tables stay as they were.
-/// Starts and entries are two parameters in this crate: the caller lends each of its tables to each call.
 pub fn load(bytes: &[u8], starts: &mut [usize], entries: &mut [Entry]) -> Result<Heading, Fault>
     ensures answer { result ≡ heading_answer (loaded bytes.now (length starts.old) (length entries.old)) }
     ensures starts { starts.new ≡ starts_after bytes.now starts.old (length entries.old) }

@@ -30,14 +30,14 @@ impl<L: Drop> From<Refused<L>> for Fault {
     }
 }
 
-/// No byte is read yet.
+/// A loader that has read nothing yet.
 #[derive(Drop)]
 pub struct Bare<'a> {
     bytes: &'a [u8],
     ghost small: { (i : ℕ) → slice_index bytes.now i < 256 },
 }
 
-/// The heading is read, and so many rows with so many entries; the reader stands behind them.
+/// A loader that has read the heading, and so many rows with so many entries in all.
 #[derive(Drop)]
 pub struct Headed<'a> {
     reader: Reader<'a>,
@@ -47,7 +47,7 @@ pub struct Headed<'a> {
     ghost begun: { ∥ Begun reader.bytes.now reader.at heading rows used ∥₁ },
 }
 
-/// The whole file is read.
+/// A loader that has read the whole file.
 #[derive(Drop)]
 pub struct Closed {
     heading: Heading,
@@ -72,7 +72,7 @@ impl<'a> Bare<'a> {
         ensures held { IfOk result (λ _. (m : Meaning) (entries : List Entry) → HoldsRows m 0 starts.new entries) }
     {
         let mut reader = Reader::new(self.bytes);
-        // By match: the closure of a map_err moves the loader, and would need a contract of its own.
+        // A `match`: see docs/DECISIONS.md, "What the checker does not have".
         match reader.heading(starts.len()) {
             Err(fault) => Err(Refused {
                 loader: self,
@@ -159,7 +159,7 @@ impl<'a> Headed<'a> {
                 fault: Fault::bare(Refusal::RowsMissing),
             });
         }
-        // By match: the closure of a map_err moves the loader, and would need a contract of its own.
+        // A `match`: see docs/DECISIONS.md, "What the checker does not have".
         match self.reader.total(self.used) {
             Err(fault) => Err(Refused {
                 loader: self,

@@ -12,7 +12,7 @@ use Rattle.std.proofs.Math.Bool.{or-false}
 use Rattle.sources.specs.declared.records.Entry.{Entry}
 use Rattle.sources.specs.declared.records.Heading.{Heading}
 use Rattle.refusals.specs.declared.Refusal.{Refusal}
-use Rattle.sources.specs.Sheets.{never_falls, last_of, starts_good, has_start, job_at, in_order, first_refusal}
+use Rattle.sources.specs.Sheets.{never_falls, last_of, starts_good, starts_at, job_at, in_order, first_refusal}
 use Rattle.sources.specs.Laws.Starts.{never_falls_lem}
 use Rattle.sources.specs.Laws.SheetSound.{has_start_lem}
 
@@ -36,7 +36,7 @@ module _ (starts : List ℕ) (rises : (i : ℕ) → i + 1 < length starts → ge
       rw (← e) (omega (arith, rises_to i d (omega arith), t))
 
   -- the first start that is not below k is the only one that may be k
-  no_start : (next k : ℕ) → ((j : ℕ) → j < next → get_or starts j 0 < k) → (next < length starts → k < get_or starts next 0) → has_start starts k ≡ false
+  no_start : (next k : ℕ) → ((j : ℕ) → j < next → get_or starts j 0 < k) → (next < length starts → k < get_or starts next 0) → starts_at starts k ≡ false
   no_start next k passed beyond =
       ⊎_elim
       (λ t.
@@ -49,31 +49,31 @@ module _ (starts : List ℕ) (rises : (i : ℕ) → i + 1 < length starts → ge
       omega (arith, beyond (omega arith)))
       (cases_lt w.0 next)))
       (λ f. f)
-      (cases_Bool (has_start starts k))
+      (cases_Bool (starts_at starts k))
 
-  start_here : (next k : ℕ) → next < length starts → get_or starts next 0 ≡ k → has_start starts k ≡ true
+  start_here : (next k : ℕ) → next < length starts → get_or starts next 0 ≡ k → starts_at starts k ≡ true
   start_here next k l e = (has_start_lem starts k).1 (next, l, λ d. get_or_default starts next d 0 l ∙ e)
 
-  pub first_start : (next k : ℕ) → ((j : ℕ) → j < next → get_or starts j 0 < k) → k ≤ get_or starts next 0 → next < length starts → eqb (get_or starts next 0) k ≡ has_start starts k
+  pub first_start : (next k : ℕ) → ((j : ℕ) → j < next → get_or starts j 0 < k) → k ≤ get_or starts next 0 → next < length starts → eqb (get_or starts next 0) k ≡ starts_at starts k
   first_start next k passed reached l =
       ⊎_elim
       (λ e. eq-eqb (get_or starts next 0) k e ∙ sym (start_here next k l e))
       (λ n. ne_eqb (get_or starts next 0) k n ∙ sym (no_start next k passed (λ _. omega arith)))
       (cases_eq (get_or starts next 0) k)
 
-  pub past_starts : (next k : ℕ) → ((j : ℕ) → j < next → get_or starts j 0 < k) → length starts ≤ next → ltb next (length starts) ≡ has_start starts k
+  pub past_starts : (next k : ℕ) → ((j : ℕ) → j < next → get_or starts j 0 < k) → length starts ≤ next → ltb next (length starts) ≡ starts_at starts k
   past_starts next k passed l = le-ltb next (length starts) l ∙ sym (no_start next k passed (λ m. absurd (omega arith)))
 
 -- ---- the order of jobs
 
 -- Jobs from a least one on are in order at k, and jobs below it are not above the one before.
 pub record Least (starts : List ℕ) (es : List Entry) (k least : ℕ) : Type 0 where
-  pub enough : (job : ℕ) → least ≤ job → (has_start starts k || ltb (job_at es (k - 1)) job) ≡ true
+  pub enough : (job : ℕ) → least ≤ job → (starts_at starts k || ltb (job_at es (k - 1)) job) ≡ true
   pub needed : (job : ℕ) → job < least → ltb (job_at es (k - 1)) job ≡ false
 
-pub least_first : (starts : List ℕ) (es : List Entry) → has_start starts 0 ≡ true → Least starts es 0 0
+pub least_first : (starts : List ℕ) (es : List Entry) → starts_at starts 0 ≡ true → Least starts es 0 0
 least_first starts es begins = record {
-  enough = λ job l. or_left (has_start starts 0) (ltb (job_at es (0 - 1)) job) begins;
+  enough = λ job l. or_left (starts_at starts 0) (ltb (job_at es (0 - 1)) job) begins;
   needed = λ job l. absurd (omega arith);
 }
 
@@ -81,12 +81,12 @@ pub least_next : (starts : List ℕ) (es : List Entry) (k : ℕ) → Least start
 least_next starts es k =
     let e : k + 1 - 1 ≡ k = omega arith in
     record {
-      enough = λ job l. or_right (has_start starts (k + 1)) (ltb (job_at es (k + 1 - 1)) job) (rw e (lt-ltb (job_at es k) job (omega arith)));
+      enough = λ job l. or_right (starts_at starts (k + 1)) (ltb (job_at es (k + 1 - 1)) job) (rw e (lt-ltb (job_at es k) job (omega arith)));
       needed = λ job l. rw e (le-ltb (job_at es k) job (omega arith));
     }
 
-pub ordered_as : (starts : List ℕ) (es : List Entry) (k least : ℕ) (r : Bool) → Least starts es k least → job_at es k < least → r ≡ has_start starts k → r ≡ in_order starts es k
-ordered_as starts es k least r lst l e = e ∙ sym (ap (λ b. has_start starts k || b) (lst.needed (job_at es k) l) ∙ or-false (has_start starts k))
+pub ordered_as : (starts : List ℕ) (es : List Entry) (k least : ℕ) (r : Bool) → Least starts es k least → job_at es k < least → r ≡ starts_at starts k → r ≡ in_order starts es k
+ordered_as starts es k least r lst l e = e ∙ sym (ap (λ b. starts_at starts k || b) (lst.needed (job_at es k) l) ∙ or-false (starts_at starts k))
 
 falls : (starts : List ℕ) (n i : ℕ) → i < n → get_or starts (i + 1) 0 < get_or starts i 0 → never_falls starts n ≡ false
 falls starts n i l below =

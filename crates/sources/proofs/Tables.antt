@@ -12,7 +12,7 @@ use Rattle.refusals.specs.declared.Refusal.TheVariants.{CountsOutside, JobOutOfO
 use Rattle.sources.specs.declared.records.Entry.{Entry}
 use Rattle.sources.specs.declared.records.Heading.{Heading}
 use Rattle.sources.specs.Meaning.{Meaning, Rising}
-use Rattle.sources.specs.Sheets.{within_limits, blank, starts_good, last_of, has_start, no_entry, job_at, worth_at, in_order, refusal_at, entries_in_rows, entry_refusal, unless, or_refused, fill_verdict, pair_of, sheet_row, sheet_of}
+use Rattle.sources.specs.Sheets.{within_limits, blank, starts_good, last_of, starts_at, no_entry, job_at, worth_at, in_order, refusal_at, entries_in_rows, entry_refusal, unless, or_refused, fill_verdict, pair_of, sheet_row, sheet_of}
 use Rattle.sources.specs.Tables.{heading_of, entry_of, ends_of, starts_of, entries_of, TablesOf, Fillable, FillsExactly}
 use Rattle.sources.specs.Laws.Starts.{Started, started, mono}
 use Rattle.sources.specs.Laws.SheetSound.{length_row, sheet_nonzero, sheet_sound}
@@ -55,14 +55,14 @@ job_at_lem pre row tail j l =
     ap (λ (e : Entry). e.job) (get_or-append-add pre (map entry_of row ++ tail) j no_entry ∙ get_or_append_left (map entry_of row) tail no_entry j (omega arith) ∙ get_or-map entry_of row j (0, 0) no_entry l)
 
 in_order_lem : (rows : List (List (ℕ × ℕ))) → AllByRecursion (Rising 0) rows → (pre : List Entry) (u k : ℕ) → length pre ≡ u → u ≤ k → k < u + length (entries_of rows)
-    → (has_start (u ∷ ends_of u rows) k ≡ true) ⊎ (job_at (pre ++ entries_of rows) (k - 1) < job_at (pre ++ entries_of rows) k)
+    → (starts_at (u ∷ ends_of u rows) k ≡ true) ⊎ (job_at (pre ++ entries_of rows) (k - 1) < job_at (pre ++ entries_of rows) k)
 in_order_lem [] r pre u k long low high = absurd (omega arith)
 in_order_lem (row ∷ rows) r pre u k long low high =
     let n' = length-map row entry_of in
     ⊎_elim
     (λ here.
     ⊎_elim
-    (λ same. inl (or_left (eqb u k) (has_start (ends_of u (row ∷ rows)) k) (eq-eqb u k (sym same))))
+    (λ same. inl (or_left (eqb u k) (starts_at (ends_of u (row ∷ rows)) k) (eq-eqb u k (sym same))))
     (λ other.
     let a : k - 1 ≡ length pre + (k - u - 1) = omega arith in
     let b : k ≡ length pre + suc (k - u - 1) = omega arith in
@@ -74,7 +74,7 @@ in_order_lem (row ∷ rows) r pre u k long low high =
     let n = length-append pre (map entry_of row) in
     let n'' = length-append (map entry_of row) (entries_of rows) in
     ⊎_elim
-    (λ t. inl (or_right (eqb u k) (has_start (ends_of u (row ∷ rows)) k) t))
+    (λ t. inl (or_right (eqb u k) (starts_at (ends_of u (row ∷ rows)) k) t))
     (λ t. inr (subst (λ (l : List Entry). job_at l (k - 1) < job_at l k) (append_assoc pre (map entry_of row) (entries_of rows)) t))
     (in_order_lem rows r.1 (pre ++ map entry_of row) (u + length row) k (omega arith) there (omega arith)))
     (cases_lt k (u + length row))
@@ -100,8 +100,8 @@ module _ (m : Meaning) (good : Fillable m) (rest : List Entry) where
       let es = entries_of m.rows in
       let f = All-get_or (Fine m) (entries_of m.rows) k no_entry l (rows_fine m m.rows good.sound.known good.nonzero good.sound.within) in
       let o : in_order (starts_of m.rows) (entries_of m.rows) k ≡ true =
-      ⊎_elim (λ t. or_left (has_start (starts_of m.rows) k) (ltb (job_at es (k - 1)) (job_at es k)) t)
-      (λ t. or_right (has_start (starts_of m.rows) k) (ltb (job_at es (k - 1)) (job_at es k)) (lt-ltb (job_at es (k - 1)) (job_at es k) t))
+      ⊎_elim (λ t. or_left (starts_at (starts_of m.rows) k) (ltb (job_at es (k - 1)) (job_at es k)) t)
+      (λ t. or_right (starts_at (starts_of m.rows) k) (ltb (job_at es (k - 1)) (job_at es k)) (lt-ltb (job_at es (k - 1)) (job_at es k) t))
       (in_order_lem m.rows good.sound.rising [] 0 k refl (omega arith) (omega arith)) in
       cond-true (ltb (job_at es k) m.jobs && in_order (starts_of m.rows) es k) (cond (leb 1 (worth_at es k) && leb (worth_at es k) m.ceiling) None (Some WorthOutside)) (Some JobOutOfOrder)
       (and_from (ltb (job_at es k) m.jobs) (in_order (starts_of m.rows) es k) (lt-ltb (job_at es k) m.jobs f.0) o)

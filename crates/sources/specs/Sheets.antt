@@ -31,8 +31,8 @@ abbrev pub starts_good : Heading → List ℕ → ℕ → Bool
 starts_good h starts count = (length starts == h.carriers + 1 && slice_index starts 0 == 0) && (never_falls starts h.carriers && nat_le (last_of h starts) count)
 
 -- Some row starts at k.
-abbrev pub has_start : List ℕ → ℕ → Bool
-has_start starts k = list_any (λ s. s == k) starts
+abbrev pub starts_at : List ℕ → ℕ → Bool
+starts_at starts k = list_any (λ s. s == k) starts
 
 abbrev pub no_entry : Entry
 no_entry = record { job = 0; worth = 0 }
@@ -45,7 +45,7 @@ worth_at es k = (slice_index_or es k no_entry).worth
 
 -- The entry at k begins its row, or its job is above that of the entry before it.
 abbrev pub in_order : List ℕ → List Entry → ℕ → Bool
-in_order starts es k = has_start starts k || nat_lt (job_at es (k - 1)) (job_at es k)
+in_order starts es k = starts_at starts k || nat_lt (job_at es (k - 1)) (job_at es k)
 
 -- What is refused with r unless a test passes; else the rest decides.
 abbrev pub unless : Bool → Refusal → Option Refusal → Option Refusal

@@ -1,7 +1,7 @@
 //! What filling a sheet checks.
 ghost use Rattle.std.specs.Prelude.{◌≡◌, ℕ, ◌+◌, ◌<◌, ◌≤◌, true, length, slice_index};
 ghost use Rattle.sources.specs.Limits.{most_carriers};
-ghost use Rattle.sources.specs.Sheets.{within_limits, starts_good, has_start, entry_refusal, fill_verdict};
+ghost use Rattle.sources.specs.Sheets.{within_limits, starts_good, starts_at, entry_refusal, fill_verdict};
 
 use crate::records::{Entry, Heading};
 use refusals::Refusal;
@@ -52,14 +52,14 @@ fn starts_at(starts: &[usize], next: usize, k: usize) -> bool
     requires rises { (i : ℕ) → i + 1 < length starts.now → slice_index starts.now i ≤ slice_index starts.now (i + 1) }
     requires passed { (j : ℕ) → j < next → slice_index starts.now j < k }
     requires reached { next < length starts.now → k ≤ slice_index starts.now next }
-    ensures { result ≡ has_start starts.now k }
+    ensures { result ≡ starts_at starts.now k }
 {
     next < starts.len() && starts[next] == k
 }
 
-// What the first bad entry is refused for. An Option, and no Result: the invariant of `Sheet` names this answer.
+// What the first bad entry is refused for.
 fn entry_refusal(heading: Heading, starts: &[usize], entries: &[Entry]) -> Option<Refusal>
-    requires begins { has_start starts.now 0 ≡ true }
+    requires begins { starts_at starts.now 0 ≡ true }
     requires rises { (i : ℕ) → i + 1 < length starts.now → slice_index starts.now i ≤ slice_index starts.now (i + 1) }
     ensures { result ≡ entry_refusal heading starts.now entries.now }
 {
@@ -87,7 +87,6 @@ fn entry_refusal(heading: Heading, starts: &[usize], entries: &[Entry]) -> Optio
 }
 
 // What filling answers: the counts are checked, then the row starts, then every entry of every row in order.
-// The heading and the tables come one by one: the struct of the three is `Sheet`, once they are checked.
 pub(crate) fn fill_verdict(
     heading: Heading,
     starts: &[usize],

@@ -6,7 +6,8 @@ ghost use Rattle.sources.specs.Laws.PositionsSound.{positions_sound};
 use crate::places::{Place, worth};
 use crate::questions::Source;
 
-/// Each row has an entry for each job. The ceiling is the reach.
+/// A source over places: a job is worth what is left of the reach after the travel to it. Each row has an entry for each job; the
+/// ceiling is the reach.
 #[derive(Drop)]
 pub struct Positions<'a> {
     pub carriers: &'a [Place],

@@ -13,8 +13,8 @@ use crate::records::{Entry, Heading};
 use crate::visitors::Visitor;
 use refusals::Refusal;
 
-/// The row of carrier i begins at start i and ends before start i + 1. What filling checked holds of every sheet.
-/// Two lent tables and no vector of rows: no heap is used here.
+/// A source over two lent tables: the row of carrier i begins at start i and ends before start i + 1. What filling checked holds of
+/// every sheet.
 #[derive(Drop)]
 pub struct Sheet<'a> {
     heading: Heading,
@@ -26,7 +26,7 @@ pub struct Sheet<'a> {
 }
 
 // Shows a visitor entries, in their order. Eight of them, which a look of eight lanes goes over, are shown with no count kept from
-// one to the next: a look takes 12 instructions for each in place of 15.
+// one to the next: a look takes three instructions an entry less for it.
 #[inline(always)]
 fn show<V: Visitor>(entries: &[Entry], visitor: V) -> V
     ensures { result ≡ fold V.shown visitor (map pair_of entries.now) }

@@ -8,8 +8,7 @@ ghost use Rattle.texts.specs.declared.Failure.TheVariants.{Memory};
 use std::alloc::{AllocError, AllocFailed, Global};
 use std::fmt::Display;
 
-/// Why no text is made: for want of memory, or since what was given is refused. A refusal is put in by
-/// `map_err(Failure::Refused)`: a conversion from every E would be a second one from AllocError.
+/// Why no text is made: for want of memory, or since what was given is refused.
 #[derive(Drop)]
 pub enum Failure<E> {
     Memory,
@@ -32,8 +31,7 @@ impl<E, T: Drop> From<AllocFailed<T>> for Failure<E> {
     }
 }
 
-/// What a call prints, and why it refused what it was given, if it did. No Result: a refusal is printed too, so there is a
-/// text in each case.
+/// What a call prints, and why it refused what it was given, if it did. A refusal has a text too.
 #[derive(Drop)]
 pub struct Printed<E> {
     pub text: String,

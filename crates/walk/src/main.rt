@@ -12,7 +12,6 @@ use three_by_three::{ENTRIES, HEADING, STARTS};
 const START: Call = Call::Start { step: 1, lanes: 4 };
 
 // Makes a call, and prints it with what it tells.
-// The runtime and the hall are passed side by side, here and below: each is a handle of this program alone.
 fn make<S: Source>(rt: &impl Print, hall: &mut Hall<S>, call: Call) -> io::Result<()> {
     match call {
         Call::Start { step, lanes } => print!(rt; "start, step {step}, lanes {lanes}: ")?,

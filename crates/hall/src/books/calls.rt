@@ -1,5 +1,4 @@
-//! The calls, on books and the source that they were started for. Source and books are lent side by side: a struct of the two
-//! borrows would be a second hall.
+//! The calls, on books and the source that they were started for.
 ghost use Rattle.std.specs.Prelude.{◌≡◌, ℕ, ◌+◌, ◌^◌, ◌<◌, ◌≤◌, false, length, take, is_ok, Some, None, OnOk, slice_index};
 ghost use Rattle.sources.specs.Limits.{most_carriers, most_jobs, highest_ceiling};
 ghost use Rattle.sources.specs.Meaning.{row_of, entry_at};
@@ -78,7 +77,8 @@ fn best_lasts<S: Source>(source: &S, carrier: usize, bid: &Bid, glance: &Glance<
 }
 
 // Whether a bid's best, with a net above 0, is better than later entries of the same net: of equal nets the smaller job is the better,
-// and jobs rise along a row. Cold and not inlined, since few looks ask: the others take 1.6 instructions an entry less for it.
+// and jobs rise along a row. Cold and not inlined, as `look_closely` is, since few looks ask: together the others take 1.6 instructions
+// an entry less for it.
 #[cold]
 #[inline(never)]
 fn wins_ties<S: Source>(source: &S, carrier: usize, bid: &Bid) -> bool

@@ -1,5 +1,6 @@
 //! A look at a part of a row, in few steps for each entry.
 ghost use Rattle.std.specs.Prelude.{◌≡◌, ◌+◌, ◌^◌, ◌<◌, ◌≤◌, ◌≤ℤ◌, pos, nat_lt, int_lt};
+ghost use Rattle.sources.specs.Limits.{most_jobs, highest_worth};
 ghost use Rattle.auction.specs.Bids.{natural};
 ghost use Rattle.hall.specs.Glances.{top_net};
 
@@ -8,8 +9,8 @@ use auction::{Best, Bid};
 use sources::{MOST_JOBS, Visitor};
 
 // What a bid comes to by the entries so far: the best net, the job of the entry that has it, and the runner-up. It begins with the
-// bid's own, and an entry counts only if its net is above that; until then the job is none. An entry of worth 0 has no net above 0,
-// so that none needs a test.
+// bid's own best net and runner-up, and the job is `MOST_JOBS` until an entry's net is above that. An entry of worth 0 has no net
+// above 0, so that none needs a test.
 #[derive(Clone, Copy)]
 pub(super) struct Glance<'a> {
     prices: &'a [u64; MOST_JOBS],
@@ -21,12 +22,12 @@ pub(super) struct Glance<'a> {
 impl<'a> Glance<'a> {
     ghost use Rattle.hall.specs.Glances.{price_held};
 
-    // Nothing more was looked at.
+    // What it is before the first entry.
     pub(super) fn new(prices: &'a [u64; MOST_JOBS], bid: Bid) -> Self
-        requires low { bid.runner_up ≤ 2 ^ 60 }
+        requires low { bid.runner_up ≤ highest_worth }
         ensures prices { result.prices.now ≡ prices.now }
         ensures net { result.net ≡ pos (top_net bid.best) }
-        ensures job { result.job ≡ 256 }
+        ensures job { result.job ≡ most_jobs }
         ensures runner_up { result.runner_up ≡ pos bid.runner_up }
     {
         Glance {
@@ -39,7 +40,7 @@ impl<'a> Glance<'a> {
 
     // Whether an entry has a net above the bid's.
     pub(super) fn found(&self) -> bool
-        ensures { result ≡ nat_lt self.now.job 256 }
+        ensures { result ≡ nat_lt self.now.job most_jobs }
     {
         self.job < MOST_JOBS
     }
@@ -47,7 +48,7 @@ impl<'a> Glance<'a> {
     // That entry: its worth is its net and its price.
     pub(super) fn best(&self) -> Best
         requires some { 0 < natural self.now.net }
-        requires low { natural self.now.net + price_held self.now.prices.now self.now.job ≤ 2 ^ 60 }
+        requires low { natural self.now.net + price_held self.now.prices.now self.now.job ≤ highest_worth }
         ensures net { result.net ≡ self.now.net }
         ensures job { result.job ≡ self.now.job }
         ensures worth { result.worth ≡ natural self.now.net + price_held self.now.prices.now self.now.job }

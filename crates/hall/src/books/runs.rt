@@ -68,7 +68,8 @@ impl Books {
         queues.join_flight(carrier, looks_left);
     }
 
-    // A carrier that was first in flight acts: it looks if it has looks left, and is then last in flight; or else it settles, and whoever waits because of that is last in line.
+    // A carrier that was first in flight acts: it looks if it has looks left, and is then last in flight; or else it settles, and
+    // whoever waits because of that is last in line.
     fn first_acts<S: Source>(&mut self, source: &S, first: InFlight, queues: &mut Queues<'_>)
         requires noted { NotedOf (S.meaning source.now) self.old }
         requires line_place { length (held queues.old.line) < most_carriers }
@@ -88,7 +89,8 @@ impl Books {
         }
     }
 
-    // One step: the carrier first in line is summoned, if there is one and the depth leaves room in flight; or else the carrier first in flight acts.
+    // One step: the carrier first in line is summoned, if there is one and the depth leaves room in flight; or else the carrier first
+    // in flight acts.
     fn step<S: Source>(&mut self, source: &S, depth: usize, queues: &mut Queues<'_>)
         requires noted { NotedOf (S.meaning source.now) self.old }
         requires ordered { Ordered (S.meaning source.now) (state_of self.old queues.old 0) }

@@ -14,7 +14,7 @@ use Rattle.sources.specs.declared.records.Entry.{Entry}
 use Rattle.sources.specs.declared.records.Heading.{Heading}
 use Rattle.refusals.specs.declared.Refusal.{Refusal}
 use Rattle.refusals.specs.declared.Refusal.TheVariants.{JobOutOfOrder, WorthOutside}
-use Rattle.sources.specs.Sheets.{within_limits, blank, starts_good, last_of, has_start, no_entry, job_at, worth_at, in_order, refusal_at, first_refusal, entries_in_rows, entry_refusal, pair_of, sheet_row, sheet_rows, sheet_of}
+use Rattle.sources.specs.Sheets.{within_limits, blank, starts_good, last_of, starts_at, no_entry, job_at, worth_at, in_order, refusal_at, first_refusal, entries_in_rows, entry_refusal, pair_of, sheet_row, sheet_rows, sheet_of}
 use Rattle.sources.specs.Laws.Indexed.{all_made}
 use Rattle.sources.specs.Laws.Starts.{Started, started, mono}
 
@@ -42,8 +42,8 @@ two_tests true true e = (refl, refl)
 two_tests true false e = absurd (true≢false e)
 two_tests false b e = absurd (true≢false e)
 
-pub has_start_lem : (starts : List ℕ) (k : ℕ) → Decides (has_start starts k) ((j : ℕ) × (j < length starts) × HoldsAt (λ s. s ≡ k) starts j)
-has_start_lem starts k = Decides-by_or (λ s. nat_eq s k) (λ s. s ≡ k) (λ ss. has_start ss k) (λ s. Decides-eqb s k) refl (λ _ _. refl) starts
+pub has_start_lem : (starts : List ℕ) (k : ℕ) → Decides (starts_at starts k) ((j : ℕ) × (j < length starts) × HoldsAt (λ s. s ≡ k) starts j)
+has_start_lem starts k = Decides-by_or (λ s. nat_eq s k) (λ s. s ≡ k) (λ ss. starts_at ss k) (λ s. Decides-eqb s k) refl (λ _ _. refl) starts
 
 module _ (h : Heading) (starts : List ℕ) (entries : List Entry) (s : Started h starts (length entries)) (faultless : is_some (entry_refusal h starts (entries_in_rows h starts entries)) ≡ false) where
   length-listed : length (entries_in_rows h starts entries) ≡ last_of h starts
@@ -80,7 +80,7 @@ module _ (h : Heading) (starts : List ℕ) (entries : List Entry) (s : Started h
         ∙ sym (get_or-take (last_of h starts) entries (slice_index starts i + k) no_entry (omega (arith, place k l, ends)))
 
     -- inside a row no other row starts
-    no_start : (k : ℕ) → slice_index starts i < k → k < slice_index starts (i + 1) → has_start starts k ≢ true
+    no_start : (k : ℕ) → slice_index starts i < k → k < slice_index starts (i + 1) → starts_at starts k ≢ true
     no_start k low high e =
         let w = (has_start_lem starts k).0 e in
         let j = w.0 in
@@ -101,7 +101,7 @@ module _ (h : Heading) (starts : List ℕ) (entries : List Entry) (s : Started h
         let before : (slice_index starts i + suc k) - 1 ≡ slice_index starts i + k = omega arith in
         ⊎_elim (λ t. absurd (no_start (a + suc k) (omega arith) p t))
         (λ t. let u = rw before at (ltb-true (job_at es ((a + suc k) - 1)) (job_at es (a + suc k)) t) in omega (arith, here, there, u))
-        (or_cases (has_start starts (a + suc k)) (nat_lt (job_at es ((a + suc k) - 1)) (job_at es (a + suc k))) g.1)
+        (or_cases (starts_at starts (a + suc k)) (nat_lt (job_at es ((a + suc k) - 1)) (job_at es (a + suc k))) g.1)
 
     row_good : (k : ℕ) → k < length (sheet_row starts entries i) → (job_at (sheet_row starts entries i) k < h.jobs) × (1 ≤ worth_at (sheet_row starts entries i) k) × (worth_at (sheet_row starts entries i) k ≤ h.ceiling)
     row_good k l =

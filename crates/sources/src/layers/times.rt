@@ -13,8 +13,7 @@ pub const HIGHEST_WORTH: u64 = 1 << 60;
 // No product of a worth below this reaches 2^60.
 const SMALL_WORTH: u64 = 1 << 28;
 
-/// Each worth of the source below times a factor. That source is held by value, so that a pile of layers is one value, and
-/// nobody else alters what is below.
+/// Each worth of the source below times a factor, at most 2^60.
 #[derive(Drop)]
 pub struct Times<S> {
     pub below: S,

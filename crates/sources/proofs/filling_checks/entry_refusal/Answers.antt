@@ -2,7 +2,7 @@ use Rattle.std.proofs.Common.{◌≡◌, ℕ, ◌+◌, ◌<◌, true, false, len
 use Rattle.std.proofs.lemmas.Bool.{or_left}
 use Rattle.std.proofs.lemmas.Bool.Decides.{nat_tests}
 use Rattle.refusals.specs.declared.Refusal.TheVariants.{JobOutOfOrder, WorthOutside}
-use Rattle.sources.specs.Sheets.{has_start, in_order, refusal_at}
+use Rattle.sources.specs.Sheets.{starts_at, in_order, refusal_at}
 use Rattle.sources.proofs.Refusing.{least_first, least_next, ordered_as, passed_on, refused_first, refused_nowhere}
 use Rattle.sources.proofs.filling_checks.entry_refusal.Goals as goal
 use Rattle.sources.proofs.filling_checks.entry_refusal.Goals.{then-entry-least+else-not-starts_at, else-entry-least, then-entry-eq0-via-then-entry-eq0, then-entry-eq0-via-else-entry-eq0+then-entry-heading-2}
@@ -26,7 +26,7 @@ pub returns-then-entry-eq0 : goal.returns-then-entry-eq0
 returns-then-entry-eq0 c =
     let o : in_order c.args.starts.now c.args.entries.now c.loop-k.k ≡ true =
     elim c.if-entry-least.branch [
-      | then-entry-least+else-not-starts_at w ↦ or_left (has_start c.args.starts.now c.loop-k.k) _ (sym w.starts_at.ensures ∙ w.if-not-starts_at.false)
+      | then-entry-least+else-not-starts_at w ↦ or_left (starts_at c.args.starts.now c.loop-k.k) _ (sym w.starts_at.ensures ∙ w.if-not-starts_at.false)
       | else-entry-least w ↦ c.loop-k.invariant.1.enough _ w.if-entry-least.false
     ] in
     refused_first (refusal_at c.args.heading c.args.starts.now c.args.entries.now) (length c.args.entries.now) c.loop-k.k WorthOutside c.loop-k.invariant.0 c.loop-k-test.true
@@ -39,7 +39,7 @@ pub loop-k-preserved : goal.loop-k-preserved
 loop-k-preserved c =
     let o : in_order c.args.starts.now c.args.entries.now c.loop-k.k ≡ true =
     elim c.if-entry-least.branch [
-      | then-entry-least+else-not-starts_at w ↦ or_left (has_start c.args.starts.now c.loop-k.k) _ (sym w.starts_at.ensures ∙ w.if-not-starts_at.false)
+      | then-entry-least+else-not-starts_at w ↦ or_left (starts_at c.args.starts.now c.loop-k.k) _ (sym w.starts_at.ensures ∙ w.if-not-starts_at.false)
       | else-entry-least w ↦ c.loop-k.invariant.1.enough _ w.if-entry-least.false
     ] in
     let passed : (j : ℕ) → j < c.if-entry-least.next → slice_index c.args.starts.now j < c.loop-k.k + 1 =

@@ -7,7 +7,7 @@ use Rattle.sheetfile.specs.Steps.{updated, without_value}
 use Rattle.sheetfile.specs.Tables.{sheet_held}
 use Rattle.sheetfile.proofs.Filling.{within_file}
 use Rattle.sheetfile.proofs.Small.{room_loaded}
-use Rattle.pairing.proofs.loading.load_within.Goals as goal
+use Rattle.pairing.proofs.loading.load_own.Goals as goal
 
 -- What is held after a load within the limits is the sheet of the file.
 file_held : (bs : List ℕ) → ((i : ℕ) → Fits w8 (get_or bs i 0)) → (old new : Meaning) (r : Result (Unit {0}) Fault) (l : Result Meaning Fault) → loaded_within bs ≡ l →
