@@ -19,17 +19,6 @@ listed low (e ∷ row) r (suc k) h =
     let above = rising_above (e.0 + 1) row r.1 k (omega arith) in
     cond-false (eqb e.0 (job_in row k)) e.1 (worth_in row (job_in row k)) (ne_eqb e.0 (job_in row k) (λ q. omega arith)) ∙ listed (e.0 + 1) row r.1 k (omega arith)
 
-pub worth_below : (n : ℕ) (row : List (ℕ × ℕ)) → AllByRecursion (λ e. e.0 < n) row → (j : ℕ) → 0 < worth_in row j → j < n
-worth_below n [] h j above = absurd (omega arith)
-worth_below n (e ∷ row) h j above =
-    cond_both (eqb e.0 j) e.1 (worth_in row j) (λ w. 0 < w → j < n)
-    (λ q _. let s = eqb-true e.0 j q in let l = h.0 in omega arith) (λ q. worth_below n row h.1 j) above
-
-pub worth_capped : (c : ℕ) (row : List (ℕ × ℕ)) → AllByRecursion (λ e. e.1 ≤ c) row → (j : ℕ) → worth_in row j ≤ c
-worth_capped c [] h j = omega arith
-worth_capped c (e ∷ row) h j =
-    cond_both (eqb e.0 j) e.1 (worth_in row j) (λ w. w ≤ c) (λ q. h.0) (λ q. worth_capped c row h.1 j)
-
 -- what holds of no worth, and of each entry, holds of each job
 pub by_entries : (Q : ℕ → ℕ → Type 0) (row : List (ℕ × ℕ)) → ((j : ℕ) → Q j 0) → ((k : ℕ) → k < length row → Q (job_in row k) (worth_on row k)) → (j : ℕ) → Q j (worth_in row j)
 by_entries Q [] none each j = none j

@@ -3,7 +3,7 @@
 
 mod bidding;
 mod calls;
-pub mod limits;
+mod limits;
 
 pub use bidding::{
     Act, Award, Best, Bid, Counts, Ending, Held, InFlight, Report, Standing, Verdict,

@@ -20,7 +20,7 @@ fn is_better(new: Best, old: Best) -> bool
     (new.net > old.net) | ((new.net == old.net) & (new.job < old.job))
 }
 
-// The best of some entries by rising job, and the highest net among the others. Worth 0 says that there was none, and no net is
+// The best of some entries by rising job, and the highest net among the others, or 0. Worth 0 says that there was none, and no net is
 // then below this one.
 #[derive(Clone, Copy)]
 pub(crate) struct Ranked {

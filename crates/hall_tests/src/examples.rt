@@ -47,6 +47,43 @@ fn a_look_takes_as_many_entries_as_lanes(rt: HostRuntime) -> Result<(), Fail> {
     Ok(())
 }
 
+// A look of eight lanes over nine entries, and one over the ninth.
+#[test]
+fn nine_entries_take_two_looks_of_eight_lanes(rt: HostRuntime) -> Result<(), Fail> {
+    let entries = [
+        Entry { job: 0, worth: 3 },
+        Entry { job: 1, worth: 1 },
+        Entry { job: 2, worth: 4 },
+        Entry { job: 3, worth: 1 },
+        Entry { job: 4, worth: 5 },
+        Entry { job: 5, worth: 9 },
+        Entry { job: 6, worth: 2 },
+        Entry { job: 7, worth: 6 },
+        Entry { job: 8, worth: 5 },
+    ];
+    let mut hall = hall_of(1, 9, &[0, 9], &entries);
+    hall.start(1, 8)?;
+    hall.summon(0)?;
+    hall.look(0)?;
+    assert_eq!(rt; hall.settle(0), Err(Refusal::RowNotLookedAt));
+    hall.look(0)?;
+    assert_eq!(rt; hall.settle(0), won(5, 4, None));
+    Ok(())
+}
+
+// Two equal nets in two looks: the job of the first is won, and the second is the runner-up.
+#[test]
+fn an_equal_net_of_a_later_look_is_the_runner_up(rt: HostRuntime) -> Result<(), Fail> {
+    let entries = [Entry { job: 0, worth: 9 }, Entry { job: 1, worth: 9 }];
+    let mut hall = hall_of(1, 2, &[0, 2], &entries);
+    hall.start(1, 1)?;
+    hall.summon(0)?;
+    hall.look(0)?;
+    hall.look(0)?;
+    assert_eq!(rt; hall.settle(0), won(0, 1, None));
+    Ok(())
+}
+
 // Between two looks job 1 is awarded at 6. The net that was seen of it before stays in the bid, and 7 is above 6.
 #[test]
 fn a_bid_keeps_the_nets_that_it_saw(rt: HostRuntime) -> Result<(), Fail> {

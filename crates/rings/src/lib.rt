@@ -8,8 +8,8 @@ use refusals::Refusal;
 
 pub mod moves;
 
-/// A queue over lent places: what is pushed first is popped first. It takes no memory.
 // The oldest element is at `head`, and the others follow it, from the end of the places to their start.
+/// A queue over lent places: what is pushed first is popped first. It takes no memory.
 #[derive(Drop)]
 pub struct Ring<'a, T: Copy> {
     places: &'a mut [T],

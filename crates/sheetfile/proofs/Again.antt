@@ -56,11 +56,6 @@ same_bytes m bytes file = ap (λ rows. file_of (meaning_of (heading_of m) rows))
 
 -- a source that was written, where there is room for it
 module _ (m : Meaning) (s : Sound m) (is : within_limits (heading_of m) ≡ true) (out out' : List ℕ) (n : ℕ) (long : n ≡ length (written m)) (room : n ≤ length out) (put : out' ≡ over out 0 (written m)) where
-  pub accepted : write_answer m (length out) ≡ Ok n
-  accepted =
-      cond-true (within_limits (heading_of m)) (room_for TooShort (length (written m)) (length out) (length (written m))) (Err CountsOutside) is
-      ∙ room_there TooShort (length (written m)) (length out) (length (written m)) (omega (arith, long)) ∙ ap (λ k. Ok k) (sym long)
-
   front : (k : ℕ) → ◌≡◌ {A = Result ℕ Refusal} (Ok n) (Ok k) → SheetFile (take k out') (without_zeros m)
   front k same =
       let e : k ≡ length (written m) = sym (let q : n ≡ k = cc in q) ∙ long in

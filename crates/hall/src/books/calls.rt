@@ -35,8 +35,8 @@ pub(crate) fn check_start<S: Source>(source: &S, step: u64, lanes: usize) -> Res
     }
 }
 
-// Looks at the next entries of the carrier's row, as many as there are lanes, or as many as are left. Inlined, since what calls it has
-// found the row's length.
+// Looks at the next entries of the carrier's row, as many as there are lanes, or as many as are left. Inlined: out of line it would
+// ask for the row's place again.
 #[inline(always)]
 fn look_on<S: Source>(
     source: &S,
@@ -69,7 +69,7 @@ fn look_on<S: Source>(
     }
 }
 
-// Whether a bid's best is the best still, after a part of the row with no net above its own.
+// Whether a bid's best is the best still, after a part of the row in which the glance found none.
 fn best_lasts<S: Source>(source: &S, carrier: usize, bid: &Bid, glance: &Glance<'_>) -> bool
     ensures { result ≡ lasts glance.now (entry_at (S.meaning source.now) carrier bid.now.looked) bid.now.best }
 {

@@ -9,7 +9,7 @@ use auction::{Best, Bid};
 use sources::{MOST_JOBS, Visitor};
 
 // What a bid comes to by the entries so far: the best net, the job of the entry that has it, and the runner-up. It begins with the
-// bid's own best net and runner-up, and the job is `MOST_JOBS` until an entry's net is above that. An entry of worth 0 has no net
+// bid's own, with a net of 0 where the bid has none above 0, and the job is `MOST_JOBS` until an entry's net is above that. An entry of worth 0 has no net
 // above 0, so that none needs a test.
 #[derive(Clone, Copy)]
 pub(super) struct Glance<'a> {
@@ -38,7 +38,7 @@ impl<'a> Glance<'a> {
         }
     }
 
-    // Whether an entry has a net above the bid's.
+    // Whether an entry has a net above 0 and above the bid's.
     pub(super) fn found(&self) -> bool
         ensures { result ≡ nat_lt self.now.job most_jobs }
     {

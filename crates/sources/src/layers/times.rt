@@ -88,7 +88,7 @@ impl<S: Source> Source for Times<S> {
 
     #[inline(always)]
     fn visit<V: Visitor>(&self, carrier: usize, from: usize, count: usize, visitor: V) -> V {
-        // One test for the whole part: an entry of it is then scaled by 2 instructions in place of 11.
+        // One test for the whole part: the factor is then one multiplication for each entry, with no test for a product that is too large.
         if self.below.ceiling() < SMALL_WORTH {
             let revaluer = Small(wide(self.factor));
             self.below
