@@ -19,7 +19,8 @@ stands() {
     [ -x "$run" ] && [ -z "$(find "$root/crates" "$root/crates.txt" -name out -prune -o -type f -cnewer "$run" -print -quit)" ]
 }
 
-# build PROGRAM [ARGUMENT]: has the program built. Unless it is taken as rt ci left it, rt run builds it: runs it once on a good sheet, or on an empty log with the sheet as its argument.
+# build PROGRAM [ARGUMENT]: has the program built. Unless it is taken as rt ci left it, rt run builds it and runs it once: on a
+# good sheet, or on an empty log with the sheet as its argument.
 build() {
     program=$1
     run=$root/crates/$program/out/$program
