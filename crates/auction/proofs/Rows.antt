@@ -1,6 +1,5 @@
 -- Rows of entries: what a job is worth in a row.
 use Rattle.std.proofs.Common.{◌≡◌, ℕ, zero, suc, ◌+◌, ◌<◌, ◌≤◌, eqb, List, [], ◌∷◌, length, get_or, refl, ◌∙◌, subst, arith}
-use Rattle.std.specs.List.{AllByRecursion}
 use Rattle.std.proofs.lemmas.Bool.{cond_both, cond-true, cond-false, eq-eqb, ne_eqb, eqb-true}
 use Rattle.sources.specs.Meaning.{worth_in, Rising}
 use Rattle.sources.proofs.Reading.{rising_above}

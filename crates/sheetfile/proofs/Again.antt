@@ -1,22 +1,19 @@
 -- Written and read again, read and written again.
-use Rattle.std.proofs.Common.{◌≡◌, ℕ, ◌+◌, ◌<◌, ◌≤◌, true, ltb, List, [], ◌∷◌, map, length, take, drop, Ok, Err, Result, sym, refl, ap, ◌∙◌, subst, ⊎_elim, arith}
+use Rattle.std.proofs.Common.{◌≡◌, ℕ, ◌+◌, ◌<◌, ◌≤◌, true, ltb, List, [], ◌∷◌, map, length, take, drop, Ok, Result, sym, refl, ap, ◌∙◌, subst, ⊎_elim, arith}
 use Rattle.std.proofs.lemmas.List.{length-map, take_at}
 use Rattle.std.proofs.lemmas.Bool.{cases_lt, cond-false, cond-true, le-ltb, lt-ltb}
 use Rattle.std.specs.List.{AllByRecursion}
 use Rattle.numbers.specs.Writing.{over}
 use Rattle.refusals.specs.declared.Refusal.{Refusal}
-use Rattle.refusals.specs.declared.Refusal.TheVariants.{CountsOutside, TooShort}
 use Rattle.sources.specs.Meaning.{Meaning, Rising, Sound}
 use Rattle.sources.specs.Sheets.{within_limits}
 use Rattle.sources.specs.Tables.{Fillable, heading_of}
 use Rattle.sources.specs.declared.records.Heading.{Heading}
 use Rattle.sheetfile.specs.Laws.{WritesLoadable}
 use Rattle.sheetfile.specs.Layout.{Row, SheetFile, file_of, meaning_of}
-use Rattle.sheetfile.specs.Steps.{room_for}
-use Rattle.sheetfile.specs.Writing.{nonzero, without_zeros, write_answer, written}
+use Rattle.sheetfile.specs.Writing.{nonzero, without_zeros, written}
 use Rattle.sheetfile.proofs.Bounds.{RowIn, bounded, fillable, limits}
 use Rattle.sheetfile.proofs.Exact.{file_back}
-use Rattle.sheetfile.proofs.Steps.{room_there}
 
 lower : (h : Heading) (low high : ℕ) (row : Row) → low ≤ high → RowIn h high row → RowIn h low row
 lower h low high [] l r = tt
