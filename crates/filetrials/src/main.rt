@@ -1,16 +1,20 @@
 //! Whole, damaged and random sheet files through the loader, the same ones in each run: every accepted one is written
 //! again and compared, also to a buffer that is too short, and the three states and tables of one's own are compared with
-//! the load of a whole file. Prints what became of them.
+//! the load of a whole file. Prints what became of them, and the first one of each kind that is wrong.
 #![tactic(auto)]
 
+mod checks;
+mod wrong;
+
+use anyhow::ensure;
+use checks::check_file;
 use grids::draws::Draw;
 use grids::groups::push_number;
-use refusals::{Fault, Refusal};
-use sheetfile::{Bare, OwnTables, load, rewrite, sheet_over};
-use sources::{Entry, Heading, MOST_CARRIERS, Sheet, Source, heading_of, row_length};
+use refusals::Refusal;
 use std::alloc::{AllocError, Global};
 use std::collections::BTreeMap;
-use std::fmt;
+use std::{fmt, io};
+use wrong::{Found, Origin, Wrong};
 
 // Small seeds are spread over all bits.
 const SPREAD: u64 = 0x9e37_79b9_7f4a_7c15;
@@ -75,93 +79,87 @@ fn random_file(heap: Global, draw: &mut Draw) -> Result<Vec<u8>, AllocError> {
     Ok(bytes)
 }
 
-// What is lent to a load, and the buffer that is written to. The tables are short, so that some sheets do not fit; no file
-// of these trials is longer than the buffer.
-const STARTS: [usize; 6] = [7; 6];
-
-const ENTRIES: [Entry; 20] = [Entry { job: 9, worth: 9 }; 20];
-
-const OUT: [u8; 160] = [255; 160];
-
 // What became of files. Refusals are counted by their numbers, which are printed, in their order.
 #[derive(Drop)]
 struct Tally {
+    heap: Global,
     same: u64,
     wrong: u64,
+    first: Option<Found>,
     refused: BTreeMap<u8, u64>,
 }
 
 impl Tally {
     fn new(heap: Global) -> Tally {
         Tally {
+            heap,
             same: 0,
             wrong: 0,
+            first: None,
             refused: BTreeMap::new(heap),
         }
     }
 
-    // A file was accepted; it should come out the same.
-    fn accept(&mut self, same: bool) {
-        if same {
-            self.same = self.same.saturating_add(1);
-        } else {
-            self.wrong = self.wrong.saturating_add(1);
-        }
+    // A file was refused, as it should be.
+    fn refuse(&mut self, refusal: Refusal) -> Result<(), AllocError> {
+        let count = self.refused.entry(refusal.number())?.or_insert(0);
+        *count = count.saturating_add(1);
+        Ok(())
     }
 
-    // A file was refused; that should alter nothing, both ways to load it should agree, and no load is refused for what
-    // only a hall refuses.
-    fn refuse(&mut self, refusal: Refusal, right: bool) -> Result<(), AllocError> {
-        let number = refusal.number();
-        if right && number <= Refusal::TooShort.number() {
-            let count = self.refused.entry(number)?.or_insert(0);
-            *count = count.saturating_add(1);
-        } else {
-            self.wrong = self.wrong.saturating_add(1);
+    // A file is wrong; the first one is kept.
+    fn keep(&mut self, origin: Origin, wrong: Wrong, bytes: &[u8]) -> Result<(), AllocError> {
+        self.wrong = self.wrong.saturating_add(1);
+        if self.first.is_none() {
+            let bytes = Vec::from_slice(self.heap, bytes)?;
+            self.first = Some(Found {
+                origin,
+                wrong,
+                bytes,
+            });
         }
         Ok(())
     }
 
-    // Loads a file and writes it again, and counts what became of it.
-    fn examine(&mut self, bytes: &[u8]) -> Result<(), AllocError> {
-        let (answer, right) = write_again(bytes, OUT.len());
-        let right = right && agrees(bytes, answer) && owned_agrees(bytes);
-        match answer {
-            Ok(_) => {
-                self.accept(right && refused_if_short(bytes));
+    // Checks a file, and counts what became of it.
+    fn examine(&mut self, origin: Origin, bytes: &[u8]) -> Result<(), AllocError> {
+        match check_file(bytes) {
+            Ok(Ok(())) => {
+                self.same = self.same.saturating_add(1);
                 Ok(())
             }
-            Err(fault) => self.refuse(fault.refusal, right),
+            Ok(Err(fault)) => self.refuse(fault.refusal),
+            Err(wrong) => self.keep(origin, wrong, bytes),
         }
     }
 
     // Examines a file with each other byte at one place.
-    fn change_at(&mut self, bytes: &mut [u8], at: usize) -> Result<(), AllocError> {
-        let Some(kept) = bytes.get(at).copied() else {
+    fn change_at(&mut self, sheet: u32, bytes: &mut [u8], place: usize) -> Result<(), AllocError> {
+        let Some(kept) = bytes.get(place).copied() else {
             return Ok(());
         };
-        for other in (0..=255u8).filter(|other| *other != kept) {
-            bytes[at] = other;
-            self.examine(bytes)?;
+        for byte in (0..=255u8).filter(|other| *other != kept) {
+            bytes[place] = byte;
+            self.examine(Origin::Changed { sheet, place, byte }, bytes)?;
         }
-        bytes[at] = kept;
+        bytes[place] = kept;
         Ok(())
     }
 
     // Examines a file with each single byte changed in every way.
-    fn change_each(&mut self, bytes: &mut [u8]) -> Result<(), AllocError> {
+    fn change_each(&mut self, sheet: u32, bytes: &mut [u8]) -> Result<(), AllocError> {
         // By place: the whole file is examined each time, so no loop can hold one of its bytes.
-        for at in 0..bytes.len() {
-            self.change_at(bytes, at)?;
+        for place in 0..bytes.len() {
+            self.change_at(sheet, bytes, place)?;
         }
         Ok(())
     }
 
     // Examines each part of a file from its start, but the whole.
-    fn cut_each(&mut self, bytes: &[u8]) -> Result<(), AllocError> {
+    fn cut_each(&mut self, sheet: u32, bytes: &[u8]) -> Result<(), AllocError> {
         // By place: what is examined is the file up to a place, and no library method gives each beginning of a slice.
         for end in 0..bytes.len() {
-            self.examine(&bytes[..end])?;
+            self.examine(Origin::Cut { sheet, end }, &bytes[..end])?;
         }
         Ok(())
     }
@@ -182,117 +180,17 @@ impl fmt::Display for Tally {
     }
 }
 
-// Loads a file state by state, and takes the sheet over the tables.
-fn load_by_states(
-    bytes: &[u8],
-    starts: &mut [usize],
-    entries: &mut [Entry],
-) -> Result<Heading, Fault> {
-    let mut loader = Bare::new(bytes).read_heading(starts)?;
-    for _ in 0..=MOST_CARRIERS {
-        match loader.read_row(starts, entries) {
-            Ok(()) => {}
-            Err(fault) if fault.refusal == Refusal::NoRowLeft => break,
-            Err(fault) => return Err(fault),
-        }
-    }
-    let heading = loader.close()?.heading();
-    sheet_over(heading, starts, entries)?;
-    Ok(heading)
-}
-
-// Whether a file comes to the same as a whole and state by state: the same heading and tables, or the same refusal at
-// the same place, which is also that of writing it again. Refused as a whole, it leaves the tables as they were.
-fn agrees(bytes: &[u8], written: Result<usize, Fault>) -> bool {
-    let mut starts = STARTS;
-    let mut entries = ENTRIES;
-    let mut starts_by_states = STARTS;
-    let mut entries_by_states = ENTRIES;
-    let whole = load(bytes, &mut starts, &mut entries);
-    let by_states = load_by_states(bytes, &mut starts_by_states, &mut entries_by_states);
-    let right = match whole {
-        Ok(_) => starts == starts_by_states && entries == entries_by_states,
-        Err(_) => starts == STARTS && entries == ENTRIES,
-    };
-    right && whole == by_states && whole.map(|_| bytes.len()) == written
-}
-
-// Whether two sources tell the same row.
-fn same_row<A: Source, B: Source>(first: &A, second: &B, carrier: usize) -> bool {
-    (0..=row_length(first, carrier)).all(|place| first.entry(carrier, place)
-        == second.entry(carrier, place))
-}
-
-// Whether two sources tell the same three numbers and rows.
-fn same_sheet<A: Source, B: Source>(first: &A, second: &B) -> bool {
-    heading_of(first) == heading_of(second)
-        && (0..=first.carriers()).all(|carrier| same_row(first, second, carrier))
-}
-
-// A sheet of one carrier, which wants job 1.
-const HELD: [u8; 7] = *b"\x01\x02\x05\x01\x01\x03\x01";
-
-// Whether a file comes to the same in tables of one's own that hold no sheet, and in ones that hold one: the sheet over lent
-// tables, or the same refusal. Where it is refused, they tell the sheet that they told before.
-fn owned_agrees(bytes: &[u8]) -> bool {
-    let mut starts = [0; MOST_CARRIERS + 1];
-    let mut entries = ENTRIES;
-    let mut empty = OwnTables::<20>::new();
-    let mut held = OwnTables::<20>::new();
-    let begun = held.load(&HELD).is_ok();
-    let answer = empty.load(bytes);
-    let right = match load(bytes, &mut starts, &mut entries) {
-        Ok(heading) => match sheet_over(heading, &starts, &entries) {
-            Ok(sheet) => answer.is_ok() && same_sheet(&empty.sheet(), &sheet),
-            Err(_) => false,
-        },
-        Err(fault) => answer == Err(fault) && same_sheet(&empty.sheet(), &Sheet::new()),
-    };
-    let same = held.load(bytes) == answer;
-    let mut before = OwnTables::<20>::new();
-    let told = match answer {
-        Ok(()) => same_sheet(&held.sheet(), &empty.sheet()),
-        Err(_) => before.load(&HELD).is_ok() && same_sheet(&held.sheet(), &before.sheet()),
-    };
-    begun && right && same && told
-}
-
-// Loads a file and writes it again to so many bytes of the buffer. Gives the answer, and whether the buffer then begins
-// with the file and is as it was behind it; where it is refused, whether the tables and the buffer stayed as they were.
-fn write_again(bytes: &[u8], room: usize) -> (Result<usize, Fault>, bool) {
-    let mut starts = STARTS;
-    let mut entries = ENTRIES;
-    let mut out = OUT;
-    let answer = rewrite(
-        bytes,
-        &mut starts,
-        &mut entries,
-        &mut out[..room.min(OUT.len())],
-    );
-    let right = match answer {
-        Ok(len) => out.get(0..len) == Some(bytes) && out.get(len..) == OUT.get(len..),
-        Err(_) => starts == STARTS && entries == ENTRIES && out == OUT,
-    };
-    (answer, right)
-}
-
-// Whether an accepted file is refused with 12 by a buffer one byte shorter than it, and all that is lent stays as it was.
-fn refused_if_short(bytes: &[u8]) -> bool {
-    let (answer, kept) = write_again(bytes, bytes.len().saturating_sub(1));
-    kept && answer == Err(Fault::bare(Refusal::TooShort))
-}
-
 // Examines some sheets, whole and damaged.
 fn try_sheets(heap: Global, count: u32) -> Result<[Tally; 3], AllocError> {
     let mut draw = Draw::new(1 ^ SPREAD);
     let mut sheets = Tally::new(heap);
     let mut changes = Tally::new(heap);
     let mut cuts = Tally::new(heap);
-    for _ in 0..count {
-        let mut sheet = sheet_file(heap, &mut draw)?;
-        sheets.examine(&sheet)?;
-        changes.change_each(&mut sheet)?;
-        cuts.cut_each(&sheet)?;
+    for sheet in 0..count {
+        let mut file = sheet_file(heap, &mut draw)?;
+        sheets.examine(Origin::Sheet(sheet), &file)?;
+        changes.change_each(sheet, &mut file)?;
+        cuts.cut_each(sheet, &file)?;
     }
     Ok([sheets, changes, cuts])
 }
@@ -301,19 +199,33 @@ fn try_sheets(heap: Global, count: u32) -> Result<[Tally; 3], AllocError> {
 fn try_random(heap: Global, count: u32) -> Result<Tally, AllocError> {
     let mut draw = Draw::new(2 ^ SPREAD);
     let mut tally = Tally::new(heap);
-    for _ in 0..count {
+    for number in 0..count {
         let file = random_file(heap, &mut draw)?;
-        tally.examine(&file)?;
+        tally.examine(Origin::Random(number), &file)?;
     }
     Ok(tally)
 }
 
+// Prints what became of the files of a kind.
+fn tell(rt: &impl Print, kind: &str, tally: &Tally) -> io::Result<()> {
+    println!(rt; "{kind}: {tally}")?;
+    if let Some(first) = &tally.first {
+        println!(rt; "the first wrong one: {first}")?;
+    }
+    Ok(())
+}
+
+// Ends with status 1 if a file is wrong.
 fn main(rt: HostRuntime) -> anyhow::Result<()> {
     let [sheets, changes, cuts] = try_sheets(rt.alloc(), 48)?;
-    println!(rt; "sheets: {sheets}")?;
-    println!(rt; "single bytes changed: {changes}")?;
-    println!(rt; "cuts: {cuts}")?;
+    tell(&rt, "sheets", &sheets)?;
+    tell(&rt, "single bytes changed", &changes)?;
+    tell(&rt, "cuts", &cuts)?;
     let random = try_random(rt.alloc(), 20000)?;
-    println!(rt; "random files: {random}")?;
+    tell(&rt, "random files", &random)?;
+    ensure!(
+        sheets.wrong == 0 && changes.wrong == 0 && cuts.wrong == 0 && random.wrong == 0,
+        "a check is broken"
+    );
     Ok(())
 }
