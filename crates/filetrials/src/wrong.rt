@@ -63,7 +63,7 @@ impl Check {
 // How a call on a file ended.
 pub(crate) type Answer = Result<(), Fault>;
 
-// A check that does not hold. Where the answer is as expected, what the call left is not.
+// A check that does not hold. Where the answer is as expected, what the call left or wrote is not.
 #[derive(Clone, Copy, Debug)]
 pub(crate) struct Wrong {
     pub(crate) check: Check,
@@ -90,10 +90,15 @@ impl fmt::Display for Wrong {
         let text = check.text();
         let expected = Shown(self.expected);
         let answered = Shown(self.answered);
-        write!(
-            f,
-            "broken: {text} ({check:?}); expected {expected}, answered {answered}"
-        )
+        write!(f, "broken: {text} ({check:?}); ")?;
+        if self.expected == self.answered {
+            write!(
+                f,
+                "answered {answered} as expected, but left something else"
+            )
+        } else {
+            write!(f, "expected {expected}, answered {answered}")
+        }
     }
 }
 
