@@ -103,6 +103,26 @@ mod tests {
         assert_eq!(rt; best_entry(&positions, 0), Some((0, 9)));
     }
 
+    // The first entry of a source of which nothing is known but that it answers the questions.
+    fn first_entry(source: &dyn Source) -> Option<(usize, u64)> {
+        source.entry(0, 0)
+    }
+
+    #[test]
+    fn a_source_of_any_type_is_asked(rt: HostRuntime) -> Result<(), Fail> {
+        let mut sheet = Sheet::new();
+        sheet.fill(HEADING, &STARTS, &ENTRIES)?;
+        assert_eq!(rt; first_entry(&sheet), Some((0, 5)));
+        let places = [Place { aisle: 2, level: 1 }];
+        let positions = Positions {
+            carriers: &places,
+            jobs: &places,
+            reach: 20,
+        };
+        assert_eq!(rt; first_entry(&positions), Some((0, 20)));
+        Ok(())
+    }
+
     #[test]
     fn a_filled_sheet_is_read(rt: HostRuntime) -> Result<(), Fail> {
         let mut sheet = Sheet::new();

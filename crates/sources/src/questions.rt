@@ -37,6 +37,8 @@ pub trait Source {
     /// Shows a visitor the entries of the carrier's row from a place on, so many or as many as are left, in their order. A source may write
     /// its own where it has the row at hand; a layer shows what it makes of the row below it.
     fn visit<V: Visitor>(&self, carrier: usize, from: usize, count: usize, visitor: V) -> V
+    where
+        Self: Sized,
         ensures { result ≡ fold V.shown visitor (take count (drop from (row_of (meaning self.now) carrier))) }
     {
         let part = part_of(self.row_len(carrier).unwrap_or(0), from, count);
