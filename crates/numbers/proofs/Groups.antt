@@ -1,5 +1,6 @@
 -- What the bytes of a number are, group by group, and how many there are.
-use Rattle.std.proofs.Common.{◌≡◌, ℕ, zero, suc, ◌+◌, ◌*◌, ◌/◌, ◌%◌, ◌^◌, ◌<◌, ◌≤◌, max, [], ◌∷◌, length, sym, ap, ◌∙◌, ⊎_elim, arith}
+use Rattle.std.proofs.Common.{◌≡◌, ℕ, zero, suc, ◌+◌, ◌*◌, ◌/◌, ◌%◌, ◌^◌, ◌<◌, ◌≤◌, max, [], ◌∷◌, length, sym, refl, ap, ◌∙◌, ⊎_elim, pow-add, arith}
+use Rattle.std.proofs.Math.Pow.{pow_mono}
 use native.Mathlib.Nat.{one-le-pow}
 use Rattle.std.proofs.lemmas.Bool.{cases_lt, lt-ltb, le-ltb}
 use Rattle.numbers.specs.Groups.{groups, encoded}
@@ -72,3 +73,17 @@ pub len_by_powers : (k n m : ℕ) → m ≡ max n 1 → 128 ^ k ≤ m → m < 12
 len_by_powers k n m is low high =
     let few = encoded_few k n (omega arith) in
     omega (arith, few, not_fewer k n (omega arith))
+
+powers : (k : ℕ) → 128 ^ k ≡ 2 ^ (7 * k)
+powers zero = refl
+powers (suc k) =
+    let split : 2 ^ (7 * suc k) ≡ 2 ^ (7 * k + 7) = ap (λ e. 2 ^ e) (omega arith) in
+    omega (arith, powers k, split, pow-add 2 (7 * k) 7)
+
+-- the same from the powers of 2, seven of which are one of 128
+pub len_by_bits : (b n m : ℕ) → m ≡ max n 1 → 2 ^ b ≤ m → m < 2 * 2 ^ b → b / 7 + 1 ≡ length (encoded n)
+len_by_bits b n m is low high =
+    let k = b / 7 in
+    let below : 128 ^ k ≤ 2 ^ b = omega (arith, powers k, pow_mono {i = 7 * k} {j = b} (omega arith)) in
+    let above : 2 * 2 ^ b ≤ 128 * 128 ^ k = omega (arith, powers (suc k), pow_mono {i = suc b} {j = 7 * suc k} (omega arith)) in
+    len_by_powers k n m is (omega arith) (omega arith)

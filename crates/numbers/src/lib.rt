@@ -93,7 +93,8 @@ pub fn number_len(n: u64) -> usize
     ensures value { result ≡ length (encoded n) }
     ensures sized { Sized n }
 {
-    n.max(1).ilog(128) as usize + 1
+    // By the logarithm to base 2, which is one instruction: a group has seven bits.
+    n.max(1).ilog2() as usize / 7 + 1
 }
 
 /// Writes a number from a place on, and gives the place behind it. Where it has more than six groups, or they do not

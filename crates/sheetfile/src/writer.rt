@@ -16,11 +16,22 @@ use outputs::Output;
 use refusals::Refusal;
 use sources::{Source, entries, heading_of, within_limits};
 
-// Puts a number.
+// Puts a number. One of up to three groups, as most are, is put as an array of that length, with no loop and no copy of unknown length.
 fn put_number(output: &mut Output<'_>, n: u64)
     requires { n < 2 ^ 42 }
     ensures { Puts output.old output.new (encoded n) }
 {
+    if n < 128 {
+        return output.put(&[n as u8]);
+    }
+    let first = (128 + n % 128) as u8;
+    let rest = n / 128;
+    if rest < 128 {
+        return output.put(&[first, rest as u8]);
+    }
+    if rest < 128 * 128 {
+        return output.put(&[first, (128 + rest % 128) as u8, (rest / 128) as u8]);
+    }
     let mut groups = [0; MOST_GROUPS];
     if let Ok(len) = write_number(&mut groups, 0, n) {
         output.put(&groups[..len]);
