@@ -1,12 +1,19 @@
-//! What comes of a call that prints.
+//! Text that is made piece by piece, and what comes of a call that prints.
 #![tactic(auto)]
 
-ghost use Rattle.std.specs.Prelude.{◌≡◌, [], ◌∷◌, ◌++◌, IfSome, IfOk, Some, string_bytes};
+ghost use Rattle.std.specs.Prelude.{◌≡◌, [], ◌∷◌, ◌++◌, IfSome, IfOk, OnOk, Some, string_bytes};
 ghost use Rattle.texts.specs.Telling.{Telling, newline};
 ghost use Rattle.texts.specs.declared.Failure.TheVariants.{Memory};
 
 use std::alloc::{AllocError, AllocFailed, Global};
 use std::fmt::Display;
+
+/// Adds to a text what a value shows. It fails only for want of memory; what the text holds then is left open.
+pub fn append<D: Display + Drop>(text: &mut String, value: D) -> Result<(), AllocError>
+    ensures { OnOk result (IfSome (D.output value) (λ bs. string_bytes text.new ≡ string_bytes text.old ++ bs)) }
+{
+    text.write(value)
+}
 
 /// Why no text is made: for want of memory, or since what was given is refused.
 #[derive(Drop)]
@@ -88,7 +95,7 @@ mod tests {
     #[test]
     fn a_text_is_told_as_it_is(rt: HostRuntime) -> Result<(), Fail> {
         let mut text = String::new(rt.alloc());
-        text.write(5u8)?;
+        append(&mut text, 5u8)?;
         let printed = Printed::<u8>::telling(rt.alloc(), "refused ", Ok(text))?;
         assert_eq!(rt; printed.text.as_str(), "5");
         assert_eq!(rt; printed.refused, None);
