@@ -74,20 +74,21 @@ entry_step m i k l (Some x) e inside next =
 
 -- ---- what soundness says of a row
 
-all_row : (P : List (ℕ × ℕ) → Type 0) → P [] → (rows : List (List (ℕ × ℕ))) (i : ℕ) → AllByRecursion P rows → P (get_or rows i [])
-all_row P none [] i h = none
-all_row P none (row ∷ rows) zero h = h.0
-all_row P none (row ∷ rows) (suc i) h = all_row P none rows i h.1
+-- what holds of each element and of d holds of what is read at a place, with d where there is none
+pub all_at : {X : Type 0} (P : X → Type 0) (d : X) → P d → (xs : List X) (i : ℕ) → AllByRecursion P xs → P (get_or xs i d)
+all_at P d none [] i h = none
+all_at P d none (x ∷ xs) zero h = h.0
+all_at P d none (x ∷ xs) (suc i) h = all_at P d none xs i h.1
 
 module _ (m : Meaning) (s : Sound m) (i : ℕ) where
   pub row_rising : Rising 0 (row_of m i)
-  row_rising = all_row (Rising 0) tt m.rows i s.rising
+  row_rising = all_at (Rising 0) [] tt m.rows i s.rising
 
   pub row_known : AllByRecursion (λ e. e.0 < m.jobs) (row_of m i)
-  row_known = all_row (AllByRecursion (λ e. e.0 < m.jobs)) tt m.rows i s.known
+  row_known = all_at (AllByRecursion (λ e. e.0 < m.jobs)) [] tt m.rows i s.known
 
   pub row_within : AllByRecursion (λ e. e.1 ≤ m.ceiling) (row_of m i)
-  row_within = all_row (AllByRecursion (λ e. e.1 ≤ m.ceiling)) tt m.rows i s.within
+  row_within = all_at (AllByRecursion (λ e. e.1 ≤ m.ceiling)) [] tt m.rows i s.within
 
 -- a row is no longer than there are jobs
 rising_length : (jobs low : ℕ) (row : List (ℕ × ℕ)) → Rising low row → AllByRecursion (λ e. e.0 < jobs) row → low ≤ jobs → low + length row ≤ jobs

@@ -2,6 +2,7 @@ pub mod Limits
 pub mod Meaning
 pub mod Layers
 pub mod Sheets
+pub mod StoredRows
 pub mod Tables
 pub mod OfSheet
 pub mod Travel

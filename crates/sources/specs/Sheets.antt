@@ -1,5 +1,5 @@
 -- Which refusal a heading and two tables meet when a sheet is filled from them, and what the sheet then means.
-use Rattle.std.specs.Prelude.{ℕ, zero, suc, ◌+◌, ◌-◌, Bool, true, cond, ◌&&◌, ◌||◌, List, map, length, take, drop, Some, None, Ok, Err, Option, Result, ◌==◌, nat_le, nat_lt, slice_index, slice_index_or}
+use Rattle.std.specs.Prelude.{ℕ, zero, suc, ◌+◌, ◌-◌, Bool, true, cond, ◌&&◌, ◌||◌, List, [], map, length, take, drop, Some, None, Ok, Err, Option, Result, ◌==◌, nat_le, nat_lt, slice_index, slice_index_or}
 use Rattle.std.specs.Option.{option_or}
 use Rattle.std.specs.List.{list_any, range_with_len}
 use Rattle.refusals.specs.declared.Refusal.{Refusal}
@@ -94,6 +94,10 @@ sheet_row starts entries i = take (slice_index starts (i + 1) - slice_index star
 
 abbrev pub sheet_rows : Heading → List ℕ → List Entry → List (List Entry)
 sheet_rows h starts entries = map (sheet_row starts entries) (range_with_len 0 h.carriers)
+
+-- The entry at place k of that row.
+abbrev pub sheet_entry : Heading → List ℕ → List Entry → ℕ → ℕ → Entry
+sheet_entry h starts entries i k = slice_index_or (slice_index_or (sheet_rows h starts entries) i []) k no_entry
 
 -- What a heading and two tables mean.
 abbrev pub sheet_of : Heading → List ℕ → List Entry → Meaning

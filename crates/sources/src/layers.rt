@@ -1,4 +1,3 @@
 //! Layers: each is a source over the source below it.
 pub mod floor;
-pub(crate) mod revaluing;
 pub mod times;

@@ -1,11 +1,13 @@
 //! A lent source is a source, and means what the source means.
 use crate::questions::Source;
-use crate::visitors::Visitor;
+use crate::records::{Entry, StoredRow};
 
 impl<S: Source> Source for &S {
     ghost meaning = { λ s. S.Source.meaning s.now };
 
     ghost sound = { λ s. S.Source.sound s.now };
+
+    ghost entry_stored = { λ s. S.Source.entry_stored s.now };
 
     fn carriers(&self) -> usize {
         (**self).carriers()
@@ -28,7 +30,12 @@ impl<S: Source> Source for &S {
     }
 
     #[inline(always)]
-    fn visit<V: Visitor>(&self, carrier: usize, from: usize, count: usize, visitor: V) -> V {
-        (**self).visit(carrier, from, count, visitor)
+    fn stored_row(&self, carrier: usize) -> Option<StoredRow<'_>> {
+        (**self).stored_row(carrier)
+    }
+
+    #[inline(always)]
+    fn entry_made(&self, carrier: usize, index: usize, quick: bool, entry: Entry) -> (usize, u64) {
+        (**self).entry_made(carrier, index, quick, entry)
     }
 }

@@ -10,6 +10,7 @@ mod questions;
 mod records;
 mod row_entries;
 mod sheets;
+mod showing;
 mod visitors;
 
 pub use filling_checks::{HIGHEST_CEILING, MOST_CARRIERS, MOST_JOBS, within_limits};
@@ -18,7 +19,7 @@ pub use layers::times::{HIGHEST_WORTH, Times};
 pub use nearness::Positions;
 pub use places::Place;
 pub use questions::Source;
-pub use records::{Entry, Heading};
+pub use records::{Entry, Heading, StoredRow};
 pub use row_entries::{RowEntries, entries, entries_from, heading_of, row_length};
 pub use sheets::Sheet;
 pub use visitors::Visitor;

@@ -1,16 +1,16 @@
 //! A source over two lent tables: where each row starts, and the entries of all rows. It is filled from a heading and these tables.
-ghost use Rattle.std.specs.Prelude.{◌≡◌, true, false, ◌||◌, length, is_some, is_ok, if◌then◌else◌, map, fold};
+ghost use Rattle.std.specs.Prelude.{◌≡◌, true, false, ◌||◌, length, is_some, is_ok, if◌then◌else◌, map, IfSome};
 ghost use Rattle.std.specs.List.{slice_get};
 ghost use Rattle.std.specs.Option.{option_map};
 ghost use Rattle.sources.specs.Laws.SheetSound.{sheet_sound};
-ghost use Rattle.sources.specs.Meaning.{empty_meaning};
-ghost use Rattle.sources.specs.Sheets.{within_limits, blank, starts_good, entry_refusal, fill_verdict, entries_in_rows, sheet_rows, sheet_of, pair_of};
+ghost use Rattle.sources.specs.Meaning.{empty_meaning, row_of};
+ghost use Rattle.sources.specs.Sheets.{within_limits, blank, starts_good, entry_refusal, fill_verdict, entries_in_rows, sheet_rows, sheet_entry, sheet_of};
+ghost use Rattle.sources.specs.StoredRows.{RowStored};
 ghost use Rattle.sources.specs.Tables.{FillsExactly};
 
 use crate::filling_checks::fill_verdict;
 use crate::questions::Source;
-use crate::records::{Entry, Heading};
-use crate::visitors::Visitor;
+use crate::records::{Entry, Heading, StoredRow};
 use refusals::Refusal;
 
 /// A source over two lent tables: the row of carrier i begins at start i and ends before start i + 1. What filling checked holds of
@@ -23,25 +23,6 @@ pub struct Sheet<'a> {
     ghost limited: { (within_limits heading || blank heading) ≡ true },
     ghost started: { starts_good heading starts.now (length entries.now) ≡ true },
     ghost faultless: { is_some (entry_refusal heading starts.now (entries_in_rows heading starts.now entries.now)) ≡ false },
-}
-
-// Shows a visitor entries, in their order. Eight of them, which a look of eight lanes goes over, are shown with no count kept from
-// one to the next: a look takes three instructions an entry less for it.
-#[inline(always)]
-fn show<V: Visitor>(entries: &[Entry], visitor: V) -> V
-    ensures { result ≡ fold V.shown visitor (map pair_of entries.now) }
-{
-    if let [a, b, c, d, e, f, g, h] = entries {
-        let visitor = visitor.see((a.job, a.worth)).see((b.job, b.worth));
-        let visitor = visitor.see((c.job, c.worth)).see((d.job, d.worth));
-        let visitor = visitor.see((e.job, e.worth)).see((f.job, f.worth));
-        return visitor.see((g.job, g.worth)).see((h.job, h.worth));
-    }
-    let mut visitor = visitor;
-    for entry in entries {
-        visitor = visitor.see((entry.job, entry.worth));
-    }
-    visitor
 }
 
 impl<'a> Sheet<'a> {
@@ -103,6 +84,8 @@ impl Source for Sheet<'_> {
 
     ghost sound = { λ s. sheet_sound s.heading s.starts.now s.entries.now s.limited s.started s.faultless };
 
+    ghost entry_stored = { λ s i k _ e. e ≡ sheet_entry s.heading s.starts.now s.entries.now i k };
+
     fn carriers(&self) -> usize {
         self.heading.carriers
     }
@@ -126,13 +109,28 @@ impl Source for Sheet<'_> {
     }
 
     #[inline(always)]
-    fn visit<V: Visitor>(&self, carrier: usize, from: usize, count: usize, visitor: V) -> V {
-        let Some(row) = self.row(carrier) else {
-            return visitor;
-        };
-        if from >= row.len() {
-            return visitor;
-        }
-        show(&row[from..from + count.min(row.len() - from)], visitor)
+    fn stored_row(&self, carrier: usize) -> Option<StoredRow<'_>>
+        ensures stored { let s = self.now in let row = row_of (sheet_of s.heading s.starts.now s.entries.now) carrier in
+            IfSome result (λ r. RowStored (λ k _ e. e ≡ sheet_entry s.heading s.starts.now s.entries.now carrier k) r.entries.now r.quick (length row)) }
+        ensures table { let s = self.now in
+            option_map (λ r. r.entries.now) result ≡ slice_get (sheet_rows s.heading s.starts.now s.entries.now) carrier }
+        ensures quick { IfSome result (λ r. r.quick ≡ true) }
+    {
+        let entries = self.row(carrier)?;
+        Some(StoredRow {
+            entries,
+            quick: true,
+        })
+    }
+
+    #[inline(always)]
+    fn entry_made(
+        &self,
+        _carrier: usize,
+        _index: usize,
+        _quick: bool,
+        entry: Entry,
+    ) -> (usize, u64) {
+        (entry.job, entry.worth)
     }
 }

@@ -3,9 +3,8 @@ ghost use Rattle.std.specs.Prelude.{◌≡◌};
 ghost use Rattle.sources.specs.Layers.{floored, floor_of};
 ghost use Rattle.sources.specs.Laws.LayersSound.{floor_sound};
 
-use crate::layers::revaluing::{Revaluer, Revaluing};
 use crate::questions::Source;
-use crate::visitors::Visitor;
+use crate::records::{Entry, StoredRow};
 
 /// A source with a floor over it: worths below the floor are told as 0.
 #[derive(Drop)]
@@ -21,22 +20,12 @@ fn floored(floor: u64, worth: u64) -> u64
     if worth < floor { 0 } else { worth }
 }
 
-#[derive(Clone, Copy)]
-struct AtLeast(u64);
-
-impl Revaluer for AtLeast {
-    ghost made = { λ s. floored s.0 };
-
-    #[inline(always)]
-    fn revalued(&self, worth: u64) -> u64 {
-        floored(self.0, worth)
-    }
-}
-
 impl<S: Source> Source for Floor<S> {
     ghost meaning = { λ s. floor_of s.floor (S.Source.meaning s.below) };
 
     ghost sound = { λ s. floor_sound s.floor (S.Source.meaning s.below) (S.Source.sound s.below) };
+
+    ghost entry_stored = { λ s. S.Source.entry_stored s.below };
 
     fn carriers(&self) -> usize {
         self.below.carriers()
@@ -60,10 +49,13 @@ impl<S: Source> Source for Floor<S> {
     }
 
     #[inline(always)]
-    fn visit<V: Visitor>(&self, carrier: usize, from: usize, count: usize, visitor: V) -> V {
-        let revaluer = AtLeast(self.floor);
-        self.below
-            .visit(carrier, from, count, Revaluing { revaluer, visitor })
-            .into_visitor()
+    fn stored_row(&self, carrier: usize) -> Option<StoredRow<'_>> {
+        self.below.stored_row(carrier)
+    }
+
+    #[inline(always)]
+    fn entry_made(&self, carrier: usize, index: usize, quick: bool, entry: Entry) -> (usize, u64) {
+        let (job, worth) = self.below.entry_made(carrier, index, quick, entry);
+        (job, floored(self.floor, worth))
     }
 }

@@ -1,11 +1,10 @@
 //! A layer that turns a worth w into the smaller of factor × w and 2^60, and the ceiling likewise.
-ghost use Rattle.std.specs.Prelude.{◌≡◌, ◌*◌, ◌%◌, ◌^◌, ◌<◌};
+ghost use Rattle.std.specs.Prelude.{◌≡◌, ◌^◌, ◌<◌, true};
 ghost use Rattle.sources.specs.Layers.{scaled, times_of};
 ghost use Rattle.sources.specs.Laws.LayersSound.{times_sound};
 
-use crate::layers::revaluing::{Revaluer, Revaluing};
 use crate::questions::Source;
-use crate::visitors::Visitor;
+use crate::records::{Entry, StoredRow};
 
 /// The highest worth and the highest ceiling of any source: a times layer stops there.
 pub const HIGHEST_WORTH: u64 = 1 << 60;
@@ -34,36 +33,13 @@ fn wide(factor: u32) -> u64
     u64::from(factor)
 }
 
-// Multiplies any worth.
-#[derive(Clone, Copy)]
-struct Any(u32);
-
-impl Revaluer for Any {
-    ghost made = { λ s. scaled s.0 };
-
-    #[inline(always)]
-    fn revalued(&self, worth: u64) -> u64 {
-        multiplied(self.0, worth)
-    }
-}
-
-// Multiplies small worths: of a larger one the product may wrap.
-#[derive(Clone, Copy)]
-struct Small(u64);
-
-impl Revaluer for Small {
-    ghost made = { λ s w. (s.0 * w) % 2 ^ 64 };
-
-    #[inline(always)]
-    fn revalued(&self, worth: u64) -> u64 {
-        self.0.wrapping_mul(worth)
-    }
-}
-
 impl<S: Source> Source for Times<S> {
     ghost meaning = { λ s. times_of s.factor (S.Source.meaning s.below) };
 
     ghost sound = { λ s. times_sound s.factor (S.Source.meaning s.below) (S.Source.sound s.below) };
+
+    // The quick product of a large worth may wrap.
+    ghost entry_stored = { λ s i k quick e. S.Source.entry_stored s.below i k quick e × (quick ≡ true → (S.Source.meaning s.below).ceiling < 2 ^ 28) };
 
     fn carriers(&self) -> usize {
         self.below.carriers()
@@ -86,19 +62,23 @@ impl<S: Source> Source for Times<S> {
         Some((job, multiplied(self.factor, worth)))
     }
 
+    // One test for the whole row: the factor is then one multiplication for each entry, with no test for a product that is too large.
     #[inline(always)]
-    fn visit<V: Visitor>(&self, carrier: usize, from: usize, count: usize, visitor: V) -> V {
-        // One test for the whole part: the factor is then one multiplication for each entry, with no test for a product that is too large.
-        if self.below.ceiling() < SMALL_WORTH {
-            let revaluer = Small(wide(self.factor));
-            self.below
-                .visit(carrier, from, count, Revaluing { revaluer, visitor })
-                .into_visitor()
+    fn stored_row(&self, carrier: usize) -> Option<StoredRow<'_>> {
+        let StoredRow { entries, quick } = self.below.stored_row(carrier)?;
+        Some(StoredRow {
+            entries,
+            quick: quick && self.below.ceiling() < SMALL_WORTH,
+        })
+    }
+
+    #[inline(always)]
+    fn entry_made(&self, carrier: usize, index: usize, quick: bool, entry: Entry) -> (usize, u64) {
+        let (job, worth) = self.below.entry_made(carrier, index, quick, entry);
+        if quick {
+            (job, wide(self.factor).wrapping_mul(worth))
         } else {
-            let revaluer = Any(self.factor);
-            self.below
-                .visit(carrier, from, count, Revaluing { revaluer, visitor })
-                .into_visitor()
+            (job, multiplied(self.factor, worth))
         }
     }
 }

@@ -3,11 +3,11 @@ use Rattle.std.specs.Option.{unwrap_or}
 use Rattle.sources.specs.Meaning.{row_of}
 use Rattle.sources.proofs.Reading.{entry_or, row_len_or_zero}
 use Rattle.sources.proofs.Visiting.{cut, shown_more}
-use Rattle.sources.proofs.questions.Source.visit.Goals as goal
+use Rattle.sources.proofs.showing.show_asked.Goals as goal
 
 pub loop-index-preserved : goal.loop-index-preserved
 loop-index-preserved g c =
-    let m = g.Self.Source.meaning c.args.self.now in
+    let m = g.S.Source.meaning c.args.source.now in
     let row = row_of m c.args.carrier in
     let len : c.unwrap_or.result ≡ length (row_of m c.args.carrier) = c.unwrap_or.ensures ∙ ap (λ o. unwrap_or o 0) c.row_len.ensures ∙ row_len_or_zero m c.args.carrier in
     let e = c.unwrap_or-entry.ensures ∙ ap (λ o. unwrap_or o (0, 0)) c.entry.ensures ∙ entry_or m c.args.carrier c.loop-index.index in
@@ -18,7 +18,7 @@ loop-index-preserved g c =
 
 pub returns : goal.returns
 returns g c =
-    let m = g.Self.Source.meaning c.args.self.now in
+    let m = g.S.Source.meaning c.args.source.now in
     let row = row_of m c.args.carrier in
     let len : c.unwrap_or.result ≡ length (row_of m c.args.carrier) = c.unwrap_or.ensures ∙ ap (λ o. unwrap_or o 0) c.row_len.ensures ∙ row_len_or_zero m c.args.carrier in
     let n : c.loop-index.index - c.part_of-part.result.start ≡ min c.args.count (length (row_of m c.args.carrier) - c.part_of-part.result.start) = omega (arith, len, c.part_of-part.ensures.start, c.part_of-part.ensures.end) in
